@@ -1,0 +1,26 @@
+-- The proofs, from the laws of lists to the demands, each file after those that it uses.
+pub mod Lines
+pub mod Lawful
+pub mod Steps
+pub mod Closed
+pub mod Placements
+pub mod Full
+pub mod Nogood
+pub mod Complete
+pub mod Sound
+pub mod Places
+pub mod Order
+pub mod Ancestors
+pub mod Static
+pub mod Breadth
+pub mod AtFirst
+pub mod Sets
+pub mod Bound
+pub mod Cut
+pub mod Search
+pub mod Accepted
+pub mod Fields
+pub mod Demands
+pub mod Calls
+pub mod RoundTrip
+pub mod ReadWrite
