@@ -7,7 +7,7 @@ use Rattle.laws.specs.Masks.{inMask}
 use Rattle.rules.specs.Sheet.{cable, written, packed, layout, bits, word, bitAt, kindsHeld, lineAt, linesHeld, kindBits, lineBits}
 use Rattle.rules.specs.Checks.{verdict}
 use Rattle.rules.specs.Place.{kindFits, image, placed}
-use Rattle.rules.specs.Candidates.{atFirst, firstSets, root, rootFrom, order, orderFrom, before, parents, union, ancestors, ancestorsFrom, supported, pass, refined}
+use Rattle.rules.specs.Candidates.{atFirst, firstSets, root, rootFrom, order, orderFrom, newcomers, before, parents, union, ancestors, ancestorsFrom, supported, pass, refined}
 use Rattle.rules.specs.Tries.{triesOf, planOf, level, firstSet, attempt, opening, siblings, skips, joinSet, lastSet, takeable, user, rowOf, after}
 use Rattle.rules.specs.Partials.{partials, partialsOf, partialsUpTo, placings, isPartial, lineKept}
 use Rattle.rules.specs.Answer.{cut, tried}
@@ -161,5 +161,5 @@ benches = a ++ (b ++ (c ++ (d ++ (e ++ (f ++ (g ++ (h ++ (i ++ (j ++ (k ++ (l ++
 
 -- every bench gives what is said, and bench h has 8 partial placements
 pub all-benches : (map (λ b. run (b .0)) benches ≡ map (λ b. b .1) benches) × (partials (figureOf hF) (patchOf hP) ≡ 8)
-unfolding run reader writer search triples linesOf figureOf patchOf connected verdict flatten packed layout bits word bitAt kindsHeld lineAt linesHeld kindBits lineBits triesOf planOf cut tried level firstSet attempt opening siblings skips joinSet lastSet takeable image placed user rowOf after inMask kindFits atFirst firstSets root rootFrom order orderFrom before parents union ancestors ancestorsFrom supported pass refined partialsOf partialsUpTo placings isPartial lineKept
+unfolding run reader writer search triples linesOf figureOf patchOf connected verdict flatten packed layout bits word bitAt kindsHeld lineAt linesHeld kindBits lineBits triesOf planOf cut tried level firstSet attempt opening siblings skips joinSet lastSet takeable image placed user rowOf after inMask kindFits atFirst firstSets root rootFrom order orderFrom newcomers before parents union ancestors ancestorsFrom supported pass refined partialsOf partialsUpTo placings isPartial lineKept
 all-benches = (refl, refl)
