@@ -1,6 +1,6 @@
 -- Laws of the words on lists: members, tests, entries, order, sums.
 use Prim.Native.Nat.{ℕ, zero, suc, _+_, _≤_, _<_, suc-le-suc}
-use mathlib.Core.Path.{_≡_, refl, ap, ap₂, sym, _∙_}
+use mathlib.Core.Path.{_≡_, refl, ap, ap₂, sym, subst, _∙_}
 use mathlib.Core.Logic.{_⊎_, inl, inr, ⊎-elim, _≢_}
 use mathlib.Core.List.{List, [], _∷_, _++_, map, List·Memᴰ, List·Memᴰ·head, List·Memᴰ·tail, List·Memᴰ·not-nil, List·Memᴰ·cases-cons, List·Memᴰ·append-cases, Memᴰ·cast, Memᴰ·append-left}
 use mathlib.Core.Bool.{Bool, true, false, _&&_, _||_, not, false≢true, or-true, and-eq-true-iff}
@@ -109,6 +109,16 @@ module _ {A : Type 0} {R : A → A → Type 0} where
   pub weaken-ordered : {Q : A → A → Type 0} {l : List A} → Ordered R l → ((x y : A) → List·Memᴰ x l → List·Memᴰ y l → R x y → Q x y) → Ordered Q l
   weaken-ordered nil f = nil
   weaken-ordered (cons {x = x} g o) f = cons (λ y m. f x y (List·Memᴰ·head refl) (List·Memᴰ·tail m) (g y m)) (weaken-ordered o (λ a b i j. f a b (List·Memᴰ·tail i) (List·Memᴰ·tail j)))
+
+-- two lists with the same members, both in an order in which nothing comes before itself or both ways round, are one
+pub ordered-one : {A : Type 0} {R : A → A → Type 0} → ((x : A) → R x x → ⊥) → ((x y : A) → R x y → R y x → ⊥) → {xs ys : List A} → Ordered R xs → Ordered R ys → ((z : A) → List·Memᴰ z xs → List·Memᴰ z ys) → ((z : A) → List·Memᴰ z ys → List·Memᴰ z xs) → xs ≡ ys
+ordered-one own both nil nil f g = refl
+ordered-one own both nil (cons {x = y} q o) f g = absurd (List·Memᴰ·not-nil (g y (List·Memᴰ·head refl)))
+ordered-one own both (cons {x = x} p o) nil f g = absurd (List·Memᴰ·not-nil (f x (List·Memᴰ·head refl)))
+ordered-one {A} {R} own both (cons {x = x} {l = xs} p o) (cons {x = y} {l = ys} q t) f g = ap₂ _∷_ heads (ordered-one own both o t (λ z m. ⊎-elim (λ e. absurd (own x (subst (λ w. R x w) (e ∙ sym heads) (p z m)))) (λ k. k) (List·Memᴰ·cases-cons (f z (List·Memᴰ·tail m)))) (λ z m. ⊎-elim (λ e. absurd (own y (subst (λ w. R y w) (e ∙ heads) (q z m)))) (λ k. k) (List·Memᴰ·cases-cons (g z (List·Memᴰ·tail m)))))
+  where
+    heads : x ≡ y
+    heads = ⊎-elim (λ e. e) (λ i. ⊎-elim (λ e. sym e) (λ j. absurd (both x y (p y j) (q x i))) (List·Memᴰ·cases-cons (g y (List·Memᴰ·head refl)))) (List·Memᴰ·cases-cons (f x (List·Memᴰ·head refl)))
 
 -- a list that goes into another, each member to one of its own, is no longer
 removed : {y : ℕ} {ys : List ℕ} → List·Memᴰ y ys → (zs : List ℕ) × (length ys ≡ suc (length zs)) × ((z : ℕ) → List·Memᴰ z ys → (z ≡ y → ⊥) → List·Memᴰ z zs)

@@ -1,21 +1,21 @@
 -- The checks of a sheet pass exactly where it is as they say, and then its graph is drawn.
-use Prim.Native.Nat.{ℕ, suc, _+_, _*_, _-_, _≤_, _<_}
+use Prim.Native.Nat.{ℕ, zero, suc, _+_, _*_, _-_, _≤_, _<_}
 use mathlib.Core.Path.{_≡_, refl, ap, sym, _∙_}
 use mathlib.Core.Logic.{_≢_, _⊎_, inl, inr, ⊎-elim, _↔_}
-use mathlib.Core.List.{List, [], _∷_, _++_, map, List·Memᴰ, List·Memᴰ·head, List·Memᴰ·tail, List·Memᴰ·not-nil, List·Memᴰ·cases-cons, List·Memᴰ·append-cases, List·Memᴰ·eq-of-singleton, Memᴰ·of-map}
+use mathlib.Core.List.{List, [], _∷_, _++_, map, List·Memᴰ, List·Memᴰ·head, List·Memᴰ·tail, List·Memᴰ·not-nil, List·Memᴰ·cases-cons, List·Memᴰ·append-cases, Memᴰ·of-map, Memᴰ·cast}
 use mathlib.Core.Bool.{Bool, true, false≢true, or-true, and-eq-true-iff}
 use mathlib.Core.Option.{Option, some, none}
 use native.Mathlib.Omega.{arith}
 use borrow.Author.Tests.{ltb-true, leb-true, eqb-true, lt-ltb, le-leb, eq-eqb}
 use lib.Dec.{eqb, ltb, leb}
 use lib.ListN.{length}
-use Rattle.laws.specs.Lists.{Ordered, nil, cons}
+use Rattle.laws.specs.Lists.{all, Ordered, nil, cons}
 use Rattle.rules.specs.Graph.{Drawn, Connected}
 use Rattle.rules.specs.Place.{Checked}
 use Rattle.rules.specs.Sheet.{Line, vertexCount, lineCount, bitLength, byteLength, bitAt, held, kindsHeld}
 use Rattle.rules.specs.Checks.{Check, verdict, FirstToFail, fails, passes, Limits, figureLimits, patchLimits, counted, cleared, lineFits, comesAfter, follows, Drawable, lineChecks, sheetChecks, Accepted}
-use Rattle.rules.specs.Calls.{endsOf, graphOf, figureOf, patchOf, connected, figureChecks, searchChecks, Handed}
-use Rattle.laws.proofs.Lists.{split, all-in, all-out, upto-in, upto-out, length-map-upto}
+use Rattle.rules.specs.Calls.{endsOf, graphOf, figureOf, patchOf, connected, figureChecks, searchChecks, searchRefusals, Handed}
+use Rattle.laws.proofs.Lists.{split, has-out, all-in, all-out, upto-in, upto-out, length-map-upto}
 use Rattle.rules.proofs.Breadth.{connected-iff}
 
 -- the verdict on a list of checks is 0 exactly where each check passes, if no check has number 0
@@ -37,34 +37,48 @@ fail-in k (passes t f) = rw t (fail-in k f)
 pub first-to-fail : (cs : List Check) (k : ℕ) → 0 < k → (verdict cs ≡ k) ↔ FirstToFail k cs
 first-to-fail cs k h = (fail-out cs k h, fail-in k)
 
--- the numbers of checks are from 11 up
-abbrev pub Numbered : List Check → Type 0
-Numbered cs = (c : Check) → List·Memᴰ c cs → 10 < c .1
+-- checks are numbered by numbers of a list
+abbrev pub Numbered : List ℕ → List Check → Type 0
+Numbered ns cs = (c : Check) → List·Memᴰ c cs → List·Memᴰ (c .1) ns
 
--- a verdict is 0 or a number from 11 up
-pub verdict-number : (cs : List Check) → Numbered cs → (verdict cs ≡ 0) ⊎ (10 < verdict cs)
+-- and so they are one after the other
+pub numbered-cons : {ns : List ℕ} {b : Bool} {k : ℕ} {cs : List Check} → List·Memᴰ k ns → Numbered ns cs → Numbered ns ((b, k) ∷ cs)
+numbered-cons m f c i = ⊎-elim (λ e. Memᴰ·cast (ap (λ d. d .1) e) m) (f c) (List·Memᴰ·cases-cons i)
+
+pub numbered-append : {ns : List ℕ} (cs : List Check) {ds : List Check} → Numbered ns cs → Numbered ns ds → Numbered ns (cs ++ ds)
+numbered-append cs f g c i = ⊎-elim (f c) (g c) (List·Memᴰ·append-cases cs i)
+
+pub numbered-nil : {ns : List ℕ} → Numbered ns []
+numbered-nil c i = absurd (List·Memᴰ·not-nil i)
+
+pub lines-numbered : {ns : List ℕ} (ten n : ℕ) → List·Memᴰ (ten + 4) ns → List·Memᴰ (ten + 5) ns → (before : Option Line) (ls : List Line) → Numbered ns (lineChecks ten n before ls)
+lines-numbered ten n f g before [] = numbered-nil
+lines-numbered ten n f g before (l ∷ ls) = numbered-cons f (numbered-cons g (lines-numbered ten n f g (some l) ls))
+
+pub sheet-numbered : {ns : List ℕ} (L : Limits) → ((i : ℕ) → i < 5 → List·Memᴰ (L .ten + suc i) ns) → (bytes : List ℕ) → Numbered ns (sheetChecks L bytes)
+sheet-numbered L each bytes = numbered-cons (each 0 (omega arith)) (numbered-cons (each 1 (omega arith)) (numbered-cons (each 0 (omega arith)) (numbered-cons (each 2 (omega arith)) (lines-numbered (L .ten) _ (each 3 (omega arith)) (each 4 (omega arith)) none (held bytes .lines)))))
+
+-- the numbers of a list are from 11 up
+abbrev pub From11 : List ℕ → Type 0
+From11 ns = all (ltb 10) ns ≡ true
+
+pub from-11 : {k : ℕ} {ns : List ℕ} → From11 ns → List·Memᴰ k ns → 10 < k
+from-11 {k} f m = ltb-true 10 k (all-out (ltb 10) m f)
+
+-- a verdict is 0 or one of the numbers
+pub verdict-number : {ns : List ℕ} (cs : List Check) → Numbered ns cs → (verdict cs ≡ 0) ⊎ List·Memᴰ (verdict cs) ns
 unfolding verdict
 verdict-number [] h = inl refl
 verdict-number (c ∷ cs) h = elim (split (c .0)) [ inl e ↦ rw e (verdict-number cs (λ d m. h d (List·Memᴰ·tail m))) | inr e ↦ rw e (inr (h c (List·Memᴰ·head refl))) ]
 
-pub verdict-append : (cs ds : List Check) → Numbered cs → (verdict (cs ++ ds) ≡ 0) ↔ ((verdict cs ≡ 0) × (verdict ds ≡ 0))
+pub verdict-append : {ns : List ℕ} → From11 ns → (cs ds : List Check) → Numbered ns cs → (verdict (cs ++ ds) ≡ 0) ↔ ((verdict cs ≡ 0) × (verdict ds ≡ 0))
 unfolding verdict
-verdict-append [] ds h = (λ v. (refl, v), λ v. v .1)
-verdict-append (c ∷ cs) ds h =
-    let now = verdict-cons c (cs ++ ds) (omega (arith, h c (List·Memᴰ·head refl))) in
-    let now′ = verdict-cons c cs (omega (arith, h c (List·Memᴰ·head refl))) in
-    let rest = verdict-append cs ds (λ d m. h d (List·Memᴰ·tail m)) in
+verdict-append f [] ds h = (λ v. (refl, v), λ v. v .1)
+verdict-append f (c ∷ cs) ds h =
+    let now = verdict-cons c (cs ++ ds) (omega (arith, from-11 f (h c (List·Memᴰ·head refl)))) in
+    let now′ = verdict-cons c cs (omega (arith, from-11 f (h c (List·Memᴰ·head refl)))) in
+    let rest = verdict-append f cs ds (λ d m. h d (List·Memᴰ·tail m)) in
     (λ v. let a = now .0 v in let b = rest .0 (a .1) in (now′ .1 (a .0, b .0), b .1), λ v. let a = now′ .0 (v .0) in now .1 (a .0, rest .1 (a .1, v .1)))
-
-pub lines-numbered : (ten n : ℕ) → 10 ≤ ten → (before : Option Line) (ls : List Line) → Numbered (lineChecks ten n before ls)
-lines-numbered ten n h before [] c m = absurd (List·Memᴰ·not-nil m)
-lines-numbered ten n h before (l ∷ ls) c m = ⊎-elim (λ e. rw e (omega arith)) (λ k. ⊎-elim (λ e. rw e (omega arith)) (lines-numbered ten n h (some l) ls c) (List·Memᴰ·cases-cons k)) (List·Memᴰ·cases-cons m)
-
-pub sheet-numbered : (L : Limits) → 10 ≤ L .ten → (bytes : List ℕ) → Numbered (sheetChecks L bytes)
-sheet-numbered L h bytes = one 0 (one 1 (one 0 (one 2 (lines-numbered (L .ten) _ h none (held bytes .lines)))))
-  where
-    one : (k : ℕ) {b : Bool} {cs : List Check} → Numbered cs → Numbered ((b, L .ten + suc k) ∷ cs)
-    one k f c m = ⊎-elim (λ e. rw e (omega arith)) (f c) (List·Memᴰ·cases-cons m)
 
 -- what the test of a line's fit says
 fits-iff : (n : ℕ) (l : Line) → (lineFits n l ≡ true) ↔ ((l .type ≤ 2) × (l .first < l .second) × (l .second < n))
@@ -184,12 +198,27 @@ pub patch-drawn : (patch : List ℕ) → Accepted patchLimits patch → ((patchO
 unfolding patchOf
 patch-drawn patch A = (rw (held-size A) (A .vertices), accepted-drawn A)
 
-module _ (figure patch memory : List ℕ) where
-  figure-numbered : Numbered (figureChecks figure)
-  figure-numbered c m = ⊎-elim (sheet-numbered figureLimits (omega arith) figure c) (λ k. omega (arith, ap (λ d. d .1) (List·Memᴰ·eq-of-singleton k))) (List·Memᴰ·append-cases (sheetChecks figureLimits figure) m)
+-- five numbers of a list
+pub tens : {ns : List ℕ} (ten : ℕ) → List·Memᴰ (ten + 1) ns → List·Memᴰ (ten + 2) ns → List·Memᴰ (ten + 3) ns → List·Memᴰ (ten + 4) ns → List·Memᴰ (ten + 5) ns → (i : ℕ) → i < 5 → List·Memᴰ (ten + suc i) ns
+tens ten a b c d e zero h = a
+tens ten a b c d e (suc zero) h = b
+tens ten a b c d e (suc (suc zero)) h = c
+tens ten a b c d e (suc (suc (suc zero))) h = d
+tens ten a b c d e (suc (suc (suc (suc zero)))) h = e
+tens ten a b c d e (suc (suc (suc (suc (suc i))))) h = absurd (omega arith)
 
-  pub search-numbered : Numbered (searchChecks figure patch memory)
-  search-numbered c m = ⊎-elim (figure-numbered c) (λ k. ⊎-elim (sheet-numbered patchLimits (omega arith) patch c) (λ j. omega (arith, ap (λ d. d .1) (List·Memᴰ·eq-of-singleton j))) (List·Memᴰ·append-cases (sheetChecks patchLimits patch) k)) (List·Memᴰ·append-cases (figureChecks figure) m)
+module _ (figure patch memory : List ℕ) where
+  figure-sheet-numbered : Numbered searchRefusals (sheetChecks figureLimits figure)
+  figure-sheet-numbered = sheet-numbered figureLimits (tens 10 (has-out 11 _ refl) (has-out 12 _ refl) (has-out 13 _ refl) (has-out 14 _ refl) (has-out 15 _ refl)) figure
+
+  figure-numbered : Numbered searchRefusals (figureChecks figure)
+  figure-numbered = numbered-append (sheetChecks figureLimits figure) figure-sheet-numbered (numbered-cons (has-out 16 _ refl) numbered-nil)
+
+  patch-numbered : Numbered searchRefusals (sheetChecks patchLimits patch)
+  patch-numbered = sheet-numbered patchLimits (tens 20 (has-out 21 _ refl) (has-out 22 _ refl) (has-out 23 _ refl) (has-out 24 _ refl) (has-out 25 _ refl)) patch
+
+  pub search-numbered : Numbered searchRefusals (searchChecks figure patch memory)
+  search-numbered = numbered-append (figureChecks figure) figure-numbered (numbered-append (sheetChecks patchLimits patch) patch-numbered (numbered-cons (has-out 31 _ refl) numbered-nil))
 
   -- a search is not refused exactly where it is handed what the checks say
   pub handed-iff : (verdict (searchChecks figure patch memory) ≡ 0) ↔ Handed figure patch memory
@@ -208,13 +237,13 @@ module _ (figure patch memory : List ℕ) where
       linked A = let D = figure-drawn figure A in connected-iff (figureOf figure) (D .0) (D .1)
 
       s : (verdict (figureChecks figure) ≡ 0) ↔ ((verdict (sheetChecks figureLimits figure) ≡ 0) × (verdict ((connected (figureOf figure), 16) ∷ []) ≡ 0))
-      s = verdict-append (sheetChecks figureLimits figure) _ (sheet-numbered figureLimits (omega arith) figure)
+      s = verdict-append {ns = searchRefusals} refl (sheetChecks figureLimits figure) _ figure-sheet-numbered
 
       p : (verdict (sheetChecks patchLimits patch ++ (leb 22_528 (length memory), 31) ∷ []) ≡ 0) ↔ ((verdict (sheetChecks patchLimits patch) ≡ 0) × (verdict ((leb 22_528 (length memory), 31) ∷ []) ≡ 0))
-      p = verdict-append (sheetChecks patchLimits patch) _ (sheet-numbered patchLimits (omega arith) patch)
+      p = verdict-append {ns = searchRefusals} refl (sheetChecks patchLimits patch) _ patch-numbered
 
       f : (verdict (searchChecks figure patch memory) ≡ 0) ↔ ((verdict (figureChecks figure) ≡ 0) × (verdict (sheetChecks patchLimits patch ++ (leb 22_528 (length memory), 31) ∷ []) ≡ 0))
-      f = verdict-append (figureChecks figure) _ figure-numbered
+      f = verdict-append {ns = searchRefusals} refl (figureChecks figure) _ figure-numbered
 
 -- and then the figure is what the demands ask for
 pub handed-checked : {figure patch memory : List ℕ} → Handed figure patch memory → Checked (figureOf figure)

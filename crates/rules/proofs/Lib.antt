@@ -20,7 +20,8 @@ pub mod Cut
 pub mod Search
 pub mod Accepted
 pub mod Fields
-pub mod Demands
+pub mod Answers
 pub mod Calls
 pub mod RoundTrip
 pub mod ReadWrite
+pub mod Demands

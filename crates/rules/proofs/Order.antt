@@ -32,6 +32,13 @@ pub lesser-apart : {xs ys : List ℕ} → Lesser xs ys → xs ≡ ys → ⊥
 lesser-apart (first {a = a} {b = b} lt) e = let i : a ≡ b = cc in omega arith
 lesser-apart (next {xs = xs} {ys = ys} i l) e = lesser-apart l (cc)
 
+-- nor two lists less than each other
+pub lesser-both : {xs ys : List ℕ} → Lesser xs ys → Lesser ys xs → ⊥
+lesser-both (first a) (first b) = omega arith
+lesser-both (first a) (next e l) = omega arith
+lesser-both (next e k) (first b) = omega arith
+lesser-both (next e k) (next f l) = lesser-both k l
+
 -- a level's tries are in order where each try's are, and those of a lesser vertex before those of a greater
 siblings-ordered : {one : ℕ → Level} {u : ℕ} {vs : List ℕ} {s : Option ℕ} {l : Level} {R : Try → Try → Type 0} → Siblings one u vs s l → Ordered _<_ vs → ((v : ℕ) → List·Memᴰ v vs → Ordered R (one v .tries)) → ((v w : ℕ) → List·Memᴰ v vs → List·Memᴰ w vs → v < w → (s t : Try) → List·Memᴰ s (one v .tries) → List·Memᴰ t (one w .tries) → R s t) → Ordered R (l .tries)
 unfolding after

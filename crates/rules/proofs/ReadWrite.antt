@@ -1,8 +1,8 @@
--- What document 01 demands of the reader and the writer.
+-- How the reader and the writer go: what they are rightly handed, what they change, and both round trips.
 use Prim.Native.Nat.{ℕ, zero, suc, _+_, _*_, _/_, _%_, _≤_, _<_}
 use mathlib.Core.Path.{_≡_, refl, ap, _∙_}
 use mathlib.Core.Logic.{_⊎_, inl, inr, ⊎-elim, _↔_}
-use mathlib.Core.List.{List, [], _∷_, _++_, List·Memᴰ·append-cases, List·Memᴰ·eq-of-singleton, List·Memᴰ·cases-cons, Memᴰ·of-map}
+use mathlib.Core.List.{List, [], _∷_, _++_, List·Memᴰ, Memᴰ·of-map}
 use mathlib.Core.Bool.{_&&_, and-eq-true-iff}
 use mathlib.Core.Option.{none}
 use native.Mathlib.Omega.{arith}
@@ -13,9 +13,9 @@ use lib.Seq.{take-at, drop-at}
 use Rattle.laws.specs.Lists.{all, upto}
 use Rattle.rules.specs.Sheet.{Line, Sheet, Bytes, vertexCount, lineCount, byteLength, held, written, kindsHeld, linesHeld, lineAt, field, bitAt}
 use Rattle.rules.specs.Checks.{Check, verdict, patchLimits, counted, lineChecks, sheetChecks, Accepted}
-use Rattle.rules.specs.Calls.{over, triples, linesOf, Read, readerChecks, ReaderHanded, reader, Written, sheetOf, Writable, writerChecks, WriterHanded, writer}
-use Rattle.laws.proofs.Lists.{all-in, all-out, length-map-upto}
-use Rattle.rules.proofs.Accepted.{Numbered, verdict-number, verdict-cons, verdict-append, lines-numbered, sheet-numbered, counted-iff, lines-iff, accepted-iff}
+use Rattle.rules.specs.Calls.{over, triples, linesOf, Read, readerChecks, readerRefusals, ReaderHanded, reader, Written, sheetOf, Writable, writerChecks, writerRefusals, WriterHanded, writer}
+use Rattle.laws.proofs.Lists.{has-out, all-in, all-out, length-map-upto}
+use Rattle.rules.proofs.Accepted.{Numbered, numbered-cons, numbered-append, numbered-nil, tens, from-11, verdict-number, verdict-cons, verdict-append, lines-numbered, sheet-numbered, counted-iff, lines-iff, accepted-iff}
 use Rattle.rules.proofs.Fields.{bitAt-lt, word-lt}
 use Rattle.rules.proofs.RoundTrip.{read-written, count-back, written-read, written-long, written-accepted}
 
@@ -45,6 +45,9 @@ length-linesOf (t ∷ (a ∷ [])) = refl
 length-linesOf (t ∷ (a ∷ (b ∷ r))) = omega (arith, length-linesOf r)
 
 -- the reader
+reader-sheet-numbered : (bytes : List ℕ) → Numbered readerRefusals (sheetChecks patchLimits bytes)
+reader-sheet-numbered = sheet-numbered patchLimits (tens 20 (has-out 21 _ refl) (has-out 22 _ refl) (has-out 23 _ refl) (has-out 24 _ refl) (has-out 25 _ refl))
+
 module _ (bytes ks ls : List ℕ) where
   abbrev space : Check
   space = (leb (vertexCount bytes) (length ks) && leb (3 * lineCount bytes) (length ls), 33)
@@ -54,7 +57,7 @@ module _ (bytes ks ls : List ℕ) where
   reader-iff = (λ v. let a = checks .0 v in let b = and-eq-true-iff _ _ .0 (verdict-cons space [] (omega arith) .0 (a .1) .0) in record { sheet = accepted-iff patchLimits bytes .0 (a .0); kinds = leb-true _ _ (b .0); lines = leb-true _ _ (b .1) }, λ H. checks .1 (accepted-iff patchLimits bytes .1 (H .sheet), rw (le-leb _ _ (H .kinds), le-leb _ _ (H .lines))))
     where
       checks : (verdict (readerChecks bytes ks ls) ≡ 0) ↔ ((verdict (sheetChecks patchLimits bytes) ≡ 0) × (verdict (space ∷ []) ≡ 0))
-      checks = verdict-append (sheetChecks patchLimits bytes) (space ∷ []) (sheet-numbered patchLimits (omega arith) bytes)
+      checks = verdict-append {ns = readerRefusals} refl (sheetChecks patchLimits bytes) (space ∷ []) (reader-sheet-numbered bytes)
 
   abbrev taken : Read
   taken = record { number = 0; vertices = vertexCount bytes; lines = lineCount bytes; kindList = over (held bytes .kinds) ks; lineList = over (triples (held bytes .lines)) ls }
@@ -63,13 +66,13 @@ module _ (bytes ks ls : List ℕ) where
   unfolding reader
   reader-taken H = rw (reader, reader-iff .1 H)
 
-  -- the reader reads what it is rightly handed, and refuses all else by a number from 11 up, changing nothing
-  pub reader-either : (ReaderHanded bytes ks ls × (reader bytes ks ls ≡ taken)) ⊎ ((10 < verdict (readerChecks bytes ks ls)) × (reader bytes ks ls ≡ record { number = verdict (readerChecks bytes ks ls); vertices = 0; lines = 0; kindList = ks; lineList = ls }))
+  -- the reader reads what it is rightly handed, and refuses all else by one of its numbers, changing nothing
+  pub reader-either : (ReaderHanded bytes ks ls × (reader bytes ks ls ≡ taken)) ⊎ (List·Memᴰ (verdict (readerChecks bytes ks ls)) readerRefusals × (reader bytes ks ls ≡ record { number = verdict (readerChecks bytes ks ls); vertices = 0; lines = 0; kindList = ks; lineList = ls }))
   unfolding reader
-  reader-either = elim (verdict-number _ numbered) [ inl v ↦ inl (reader-iff .0 v, reader-taken (reader-iff .0 v)) | inr v ↦ inr (v, back _ refl v) ]
+  reader-either = elim (verdict-number _ numbered) [ inl v ↦ inl (reader-iff .0 v, reader-taken (reader-iff .0 v)) | inr v ↦ inr (v, back _ refl (from-11 {ns = readerRefusals} refl v)) ]
     where
-      numbered : Numbered (readerChecks bytes ks ls)
-      numbered c m = ⊎-elim (sheet-numbered patchLimits (omega arith) bytes c) (λ j. omega (arith, ap (λ d. d .1) (List·Memᴰ·eq-of-singleton j))) (List·Memᴰ·append-cases (sheetChecks patchLimits bytes) m)
+      numbered : Numbered readerRefusals (readerChecks bytes ks ls)
+      numbered = numbered-append (sheetChecks patchLimits bytes) (reader-sheet-numbered bytes) (numbered-cons (has-out 33 _ refl) numbered-nil)
 
       back : (k : ℕ) → verdict (readerChecks bytes ks ls) ≡ k → 10 < k → reader bytes ks ls ≡ record { number = k; vertices = 0; lines = 0; kindList = ks; lineList = ls }
       back zero e h = absurd (omega arith)
@@ -91,7 +94,7 @@ module _ (ks ls bytes : List ℕ) where
   writer-iff = (there, λ H. rw (eq-eqb _ _ (H .threes), counted-iff patchLimits (length ks) (length ls / 3) .1 (H .sheet .vertex, H .sheet .vertices, rw length-linesOf at (H .sheet .lines)), all-in (λ k. leb k 63) ks (λ k m. le-leb k 63 (H .sheet .kinds k m))) (checks .1 (lines-iff 20 (length ks) (linesOf ls) .1 (H .sheet .drawn), rw (le-leb _ _ (H .space)))))
     where
       checks : (verdict (onLines ++ room ∷ []) ≡ 0) ↔ ((verdict onLines ≡ 0) × (verdict (room ∷ []) ≡ 0))
-      checks = verdict-append onLines (room ∷ []) (lines-numbered 20 (length ks) (omega arith) none (linesOf ls))
+      checks = verdict-append {ns = writerRefusals} refl onLines (room ∷ []) (lines-numbered 20 (length ks) (has-out 24 _ refl) (has-out 25 _ refl) none (linesOf ls))
 
       there : verdict (writerChecks ks ls bytes) ≡ 0 → WriterHanded ks ls bytes
       there v =
@@ -113,16 +116,13 @@ module _ (ks ls bytes : List ℕ) where
   unfolding writer
   writer-taken H = rw (writer, writer-iff .1 H)
 
-  -- the writer writes what it is rightly handed, and refuses all else by a number from 11 up, changing nothing
-  pub writer-either : (WriterHanded ks ls bytes × (writer ks ls bytes ≡ done)) ⊎ ((10 < verdict (writerChecks ks ls bytes)) × (writer ks ls bytes ≡ record { number = verdict (writerChecks ks ls bytes); count = 0; bytes = bytes }))
+  -- the writer writes what it is rightly handed, and refuses all else by one of its numbers, changing nothing
+  pub writer-either : (WriterHanded ks ls bytes × (writer ks ls bytes ≡ done)) ⊎ (List·Memᴰ (verdict (writerChecks ks ls bytes)) writerRefusals × (writer ks ls bytes ≡ record { number = verdict (writerChecks ks ls bytes); count = 0; bytes = bytes }))
   unfolding writer
-  writer-either = elim (verdict-number _ numbered) [ inl v ↦ inl (writer-iff .0 v, writer-taken (writer-iff .0 v)) | inr v ↦ inr (v, back _ refl v) ]
+  writer-either = elim (verdict-number _ numbered) [ inl v ↦ inl (writer-iff .0 v, writer-taken (writer-iff .0 v)) | inr v ↦ inr (v, back _ refl (from-11 {ns = writerRefusals} refl v)) ]
     where
-      last : Numbered (onLines ++ room ∷ [])
-      last c m = ⊎-elim (lines-numbered 20 (length ks) (omega arith) none (linesOf ls) c) (λ j. omega (arith, ap (λ d. d .1) (List·Memᴰ·eq-of-singleton j))) (List·Memᴰ·append-cases onLines m)
-
-      numbered : Numbered (writerChecks ks ls bytes)
-      numbered c m = ⊎-elim (λ e. omega (arith, ap (λ d. d .1) e)) (λ m. ⊎-elim (λ e. omega (arith, ap (λ d. d .1) e)) (λ m. ⊎-elim (λ e. omega (arith, ap (λ d. d .1) e)) (last c) (List·Memᴰ·cases-cons m)) (List·Memᴰ·cases-cons m)) (List·Memᴰ·cases-cons m)
+      numbered : Numbered writerRefusals (writerChecks ks ls bytes)
+      numbered = numbered-cons (has-out 34 _ refl) (numbered-cons (has-out 22 _ refl) (numbered-cons (has-out 35 _ refl) (numbered-append onLines (lines-numbered 20 (length ks) (has-out 24 _ refl) (has-out 25 _ refl) none (linesOf ls)) (numbered-cons (has-out 33 _ refl) numbered-nil))))
 
       back : (k : ℕ) → verdict (writerChecks ks ls bytes) ≡ k → 10 < k → writer ks ls bytes ≡ record { number = k; count = 0; bytes = bytes }
       back zero e h = absurd (omega arith)
