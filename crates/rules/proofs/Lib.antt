@@ -13,6 +13,7 @@ pub mod Order
 pub mod Ancestors
 pub mod Static
 pub mod Breadth
+pub mod Parented
 pub mod AtFirst
 pub mod Sets
 pub mod Bound
