@@ -14,6 +14,7 @@ pub mod Ancestors
 pub mod Static
 pub mod Breadth
 pub mod Parented
+pub mod Root
 pub mod AtFirst
 pub mod Sets
 pub mod Bound
