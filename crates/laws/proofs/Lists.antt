@@ -2,7 +2,7 @@
 use Prim.Native.Nat.{ℕ, zero, suc, _+_, _≤_, _<_, suc-le-suc}
 use mathlib.Core.Path.{_≡_, refl, ap, ap₂, sym, subst, _∙_}
 use mathlib.Core.Logic.{_⊎_, inl, inr, ⊎-elim, _≢_}
-use mathlib.Core.List.{List, [], _∷_, _++_, map, List·Memᴰ, List·Memᴰ·head, List·Memᴰ·tail, List·Memᴰ·not-nil, List·Memᴰ·cases-cons, List·Memᴰ·append-cases, Memᴰ·cast, Memᴰ·append-left}
+use mathlib.Core.List.{List, [], _∷_, _++_, map, List·Memᴰ, List·Memᴰ·head, List·Memᴰ·tail, List·Memᴰ·not-nil, List·Memᴰ·cases-cons, List·Memᴰ·append-cases, Memᴰ·cast, Memᴰ·append-left, Memᴰ·append-right}
 use mathlib.Core.Bool.{Bool, true, false, _&&_, _||_, not, false≢true, or-true, and-eq-true-iff}
 use native.Mathlib.Nat.{add-zero, add-suc, suc-add}
 use native.Mathlib.Decide.{ℕ-discrete}
@@ -10,7 +10,7 @@ use native.Mathlib.Omega.{arith}
 use borrow.Author.Tests.{eqb-true, eq-eqb}
 use lib.Dec.{eqb}
 use lib.ListN.{length, getD, take, length-map}
-use Rattle.laws.specs.Lists.{any, all, keep, each, has, upto, Ordered, nil, cons}
+use Rattle.laws.specs.Lists.{any, all, keep, each, has, distinct, upto, Ordered, nil, cons}
 
 -- a test's two ends, with the equation
 pub split : (b : Bool) → (b ≡ true) ⊎ (b ≡ false)
@@ -183,6 +183,29 @@ total-le f g (x ∷ l) h = omega (arith, h x (List·Memᴰ·head refl), total-le
 pub total-keep : (q : ℕ → Bool) (f : ℕ → ℕ) (l : List ℕ) → total f (keep q l) ≤ total f l
 total-keep q f [] = omega arith
 total-keep q f (x ∷ l) = elim (split (q x)) [ inl e ↦ rw e (omega (arith, total-keep q f l)) | inr e ↦ rw e (omega (arith, total-keep q f l)) ]
+
+-- lists one after the other: their members, and that they stand once
+module _ {A : Type 0} (f : ℕ → List A) where
+  pub each-in : {x : A} {v : ℕ} {vs : List ℕ} → List·Memᴰ v vs → List·Memᴰ x (f v) → List·Memᴰ x (each f vs)
+  each-in {x} (List·Memᴰ·head {x = w} {xs = vs} e) m = Memᴰ·append-left (each f vs) (subst (λ u. List·Memᴰ x (f u)) e m)
+  each-in (List·Memᴰ·tail {x = w} i) m = Memᴰ·append-right (f w) (each-in i m)
+
+  pub each-out : {x : A} (vs : List ℕ) → List·Memᴰ x (each f vs) → (v : ℕ) × List·Memᴰ v vs × List·Memᴰ x (f v)
+  each-out [] m = absurd (List·Memᴰ·not-nil m)
+  each-out (v ∷ vs) m = ⊎-elim (λ i. (v, List·Memᴰ·head refl, i)) (λ i. let t = each-out vs i in (t .0, List·Memᴰ·tail (t .1), t .2)) (List·Memᴰ·append-cases (f v) m)
+
+  pub each-once : {vs : List ℕ} → Ordered _≢_ vs → ((v : ℕ) → Ordered _≢_ (f v)) → ((v w : ℕ) (x : A) → List·Memᴰ x (f v) → List·Memᴰ x (f w) → v ≡ w) → Ordered _≢_ (each f vs)
+  each-once nil own apart = nil
+  each-once (cons {x = v} {l = vs} g o) own apart = append-ordered (own v) (each-once o own apart) (λ x y i j e. let t = each-out vs j in g (t .0) (t .1) (apart v (t .0) x i (subst (λ z. List·Memᴰ z (f (t .0))) (sym e) (t .2))))
+
+-- no member stands twice, as a test and as an order
+pub distinct-once : (l : List ℕ) → distinct l ≡ true → Ordered _≢_ l
+distinct-once [] h = nil
+distinct-once (v ∷ l) h = let b = and-eq-true-iff (not (has v l)) (distinct l) .0 h in cons {x = v} {l = l} (λ w m e. absurd (false≢true (rw (has-in {v = v} {l = l} (Memᴰ·cast e m)) at (b .0)))) (distinct-once l (b .1))
+
+pub once-distinct : {l : List ℕ} → Ordered _≢_ l → distinct l ≡ true
+once-distinct nil = refl
+once-distinct (cons {x = v} {l = l} f o) = elim (split (has v l)) [ inl h ↦ absurd (f v (has-out v l h) refl) | inr h ↦ rw (h, once-distinct o) ]
 
 -- how many are kept of lists one after the other
 module _ {A : Type 0} (q : A → Bool) where

@@ -3,20 +3,21 @@ use Prim.Native.Nat.{ℕ, suc, _+_, _*_, _/_, _≤_, _<_}
 use mathlib.Core.Path.{_≡_, refl, ap, sym, _∙_}
 use mathlib.Core.Logic.{_⊎_, inl, inr, _≢_, _↔_}
 use mathlib.Core.List.{List, [], _∷_, _++_, flatten, List·Memᴰ, List·Memᴰ·not-nil, List·Memᴰ·head, List·Memᴰ·tail, Memᴰ·append-left, Memᴰ·append-right}
-use mathlib.Core.Bool.{true}
+use mathlib.Core.Bool.{true, false}
 use native.Mathlib.Omega.{arith}
 use lib.ListN.{length, take, drop, replicate}
 use Rattle.laws.specs.Lists.{any, null, Begins, Ordered, nil}
 use Rattle.rules.specs.Sheet.{Bytes, byteLength}
 use Rattle.rules.specs.Checks.{FirstToFail, verdict}
-use Rattle.rules.specs.Place.{Figure, Patch, Place, Before, AllPlaces}
+use Rattle.rules.specs.Place.{Figure, Patch, Placed, Place, Before, AllPlaces}
 use Rattle.rules.specs.Candidates.{orderOf, setsOf}
 use Rattle.rules.specs.Tries.{triesOf}
-use Rattle.rules.specs.Partials.{partials}
+use Rattle.rules.specs.Partials.{Partial, partialsOf, partials}
 use Rattle.rules.specs.Answer.{Answer, Cut, answer, allRows, rowsOf}
 use Rattle.rules.specs.Calls.{over, reader, readerChecks, readerRefusals, ReaderHanded, writer, writerChecks, writerRefusals, WriterHanded, figureOf, patchOf, searchChecks, searchRefusals, Handed, Searched, Taken, roomOf, answered, refused, search, found}
 use Rattle.laws.proofs.Lists.{no-member}
 use Rattle.rules.proofs.Accepted.{first-to-fail, from-11, handed-checked}
+use Rattle.rules.proofs.Partials.{partials-exactly, partials-once}
 use Rattle.rules.proofs.ReadWrite.{reader-taken, reader-either, reader-untouched, reader-writer, writer-taken, writer-either, writer-untouched, writer-reader}
 use Rattle.rules.proofs.Answers as answers
 use Rattle.rules.proofs.Calls as calls
@@ -134,6 +135,10 @@ module _ (figure patch memory list : List ℕ) (allowance : ℕ) where
   -- tries never exceed the partial placements
   pub tries-bounded : result .tries ≤ partials F P
   tries-bounded = calls.search-cases figure patch memory list allowance (λ s. s .tries ≤ partials F P) (λ H. answers.bounded F P (handed-checked H) (roomOf figure list) allowance) (λ m. omega arith)
+
+  -- which are counted without the search: the list whose length is their number holds each of them once and nothing else
+  pub counted-apart : Taken result → any null (setsOf F P) ≡ false → ((M : Placed) → List·Memᴰ M (partialsOf F P) ↔ Partial F P (setsOf F P) (orderOf F P) M) × Ordered _≢_ (partialsOf F P)
+  counted-apart t e = let K = handed-checked (taken-exactly .0 t) in (partials-exactly F P K e, partials-once F P K)
 
   -- and that many always suffice
   pub that-many-suffice : partials F P ≤ allowance → result .number ≢ 2

@@ -10,6 +10,7 @@ pub mod Complete
 pub mod Sound
 pub mod Places
 pub mod Order
+pub mod Skips
 pub mod Ancestors
 pub mod Static
 pub mod Breadth
@@ -17,6 +18,7 @@ pub mod Parented
 pub mod Root
 pub mod AtFirst
 pub mod Sets
+pub mod Partials
 pub mod Bound
 pub mod Cut
 pub mod Search

@@ -47,7 +47,7 @@ pub record Reached (S : Plan) (row : List ℕ) : Type 0 where
   pub same : row ≡ rowOf (S .figure) at
 
 -- with k vertices left
-level-reaches : (S : Plan) (k : ℕ) {M : Placed} {row : List ℕ} → Grown S M → length M + k ≡ (S .figure .graph .size) → List·Memᴰ (some row) (level S k M .tries) → Reached S row
+pub level-reaches : (S : Plan) (k : ℕ) {M : Placed} {row : List ℕ} → Grown S M → length M + k ≡ (S .figure .graph .size) → List·Memᴰ (some row) (level S k M .tries) → Reached S row
 unfolding level
 level-reaches S zero {M} g n m = let e = List·Memᴰ·eq-of-singleton m in record { at = M; grown = g; full = omega arith; same = cc }
 level-reaches S (suc k) {M} g n m = let x = level-from S k M m in level-reaches S k (more g (omega arith) (x .1) (x .2)) (omega arith) (x .3)
