@@ -151,9 +151,13 @@ l = (find lF lP W 1 10, 0 ∷ 0 ∷ 0 ∷ 4 ∷ []) ∷ []
 abbrev m : List (Call × List ℕ)
 m = (find (S (0 ∷ 1 ∷ []) ((0, 1) ∷ [])) mP W 4 10, 0 ∷ 2 ∷ 4 ∷ 1 ∷ 0 ∷ 2 ∷ 0 ∷ []) ∷ []
 
--- our bench n: a line whose first end is not below its second, and a line that stands twice
+-- our bench n: a line whose first end is not below its second; a line that stands twice; a line with both faults, where 24 comes before 25
 abbrev n : List (Call × List ℕ)
-n = (read (S (1 ∷ 2 ∷ []) ((1, 1) ∷ [])), 24 ∷ 0 ∷ 0 ∷ 4 ∷ 4 ∷ 4 ∷ 4 ∷ 4 ∷ 4 ∷ 4 ∷ []) ∷ (read (S (1 ∷ 2 ∷ []) ((0, 1) ∷ (0, 1) ∷ [])), 25 ∷ 0 ∷ 0 ∷ 4 ∷ 4 ∷ 4 ∷ 4 ∷ 4 ∷ 4 ∷ 4 ∷ []) ∷ []
+n =
+    (read (S (1 ∷ 2 ∷ []) ((1, 1) ∷ [])), 24 ∷ 0 ∷ 0 ∷ 4 ∷ 4 ∷ 4 ∷ 4 ∷ 4 ∷ 4 ∷ 4 ∷ [])
+    ∷ (read (S (1 ∷ 2 ∷ []) ((0, 1) ∷ (0, 1) ∷ [])), 25 ∷ 0 ∷ 0 ∷ 4 ∷ 4 ∷ 4 ∷ 4 ∷ 4 ∷ 4 ∷ 4 ∷ [])
+    ∷ (read (S (1 ∷ 2 ∷ []) ((0, 1) ∷ (0, 0) ∷ [])), 24 ∷ 0 ∷ 0 ∷ 4 ∷ 4 ∷ 4 ∷ 4 ∷ 4 ∷ 4 ∷ 4 ∷ [])
+    ∷ []
 
 -- the table
 abbrev benches : List (Call × List ℕ)
