@@ -1,4 +1,4 @@
--- Document 01, "Benches": one table of calls on bytes, one theorem. a to i are starred there, j and k are run there too, l to n are our own.
+-- Document 01, "Benches": one table of calls on bytes, one theorem. a to i are starred there, j and k are run there too, l to o are our own.
 use Prim.Native.Nat.{ℕ}
 use mathlib.Core.Path.{_≡_, refl}
 use mathlib.Core.List.{List, [], _∷_, _++_, map, flatten}
@@ -159,9 +159,13 @@ n =
     ∷ (read (S (1 ∷ 2 ∷ []) ((0, 1) ∷ (0, 0) ∷ [])), 24 ∷ 0 ∷ 0 ∷ 4 ∷ 4 ∷ 4 ∷ 4 ∷ 4 ∷ 4 ∷ 4 ∷ [])
     ∷ []
 
+-- our bench o: a sheet whose bits fill its last byte has no byte more
+abbrev o : List (Call × List ℕ)
+o = (write (5 ∷ 5 ∷ 5 ∷ []) [], 0 ∷ 5 ∷ 0x00 ∷ 0xC0 ∷ 0x00 ∷ 0x51 ∷ 0x45 ∷ 4 ∷ 4 ∷ 4 ∷ []) ∷ []
+
 -- the table
 abbrev benches : List (Call × List ℕ)
-benches = a ++ (b ++ (c ++ (d ++ (e ++ (f ++ (g ++ (h ++ (i ++ (j ++ (k ++ (l ++ (m ++ n))))))))))))
+benches = a ++ (b ++ (c ++ (d ++ (e ++ (f ++ (g ++ (h ++ (i ++ (j ++ (k ++ (l ++ (m ++ (n ++ o)))))))))))))
 
 -- every bench gives what is said, and bench h has 8 partial placements
 pub all-benches : (map (λ b. run (b .0)) benches ≡ map (λ b. b .1) benches) × (partials (figureOf hF) (patchOf hP) ≡ 8)
