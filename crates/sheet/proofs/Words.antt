@@ -2,12 +2,12 @@
 use Prim.Native.Nat.{ℕ, zero, suc, _+_, _*_, _-_, _/_, _%_, _^_, _≤_, _<_}
 use mathlib.Core.Path.{_≡_, refl, ap, ap₂, sym, _∙_}
 use mathlib.Core.List.{List}
-use native.Mathlib.Nat.{zero-mul, one-mul, zero-add, add-mul, mul-assoc, add-assoc, mod-lt, mul-add-mod-self-right}
+use native.Mathlib.Nat.{zero-mul, one-mul, zero-add, add-mul, mul-assoc, add-assoc, div-one}
 use native.Mathlib.Omega.{arith}
 use lib.ListN.{getD}
 use lib.Bits.{bitAnd, and-mask}
 use lib.Pow.{pow-pos, pow-add, high, low, shl-exact}
-use Rattle.rules.specs.Sheet.{bitAt, word, field}
+use Rattle.rules.specs.Sheet.{Line, bitAt, word, field, lineAt}
 use Rattle.rules.proofs.Fields.{bitAt-lt, word-lt, byte-word}
 use Rattle.sheet.specs.Fields.{fourBytes}
 
@@ -60,3 +60,22 @@ ones w h = shl-exact {a = 1} 1 w 64 (omega arith) (omega arith) ∙ one-mul (2 ^
 
 pub masked : (x w : ℕ) → w ≤ 25 → bitAnd x (1 * 2 ^ w % 2 ^ 64 - 1) ≡ x % 2 ^ w
 masked x w h = ap (λ k. bitAnd x (k - 1)) (ones w h) ∙ and-mask x w
+
+-- a field is below the power of its width
+pub field-lt : (bytes : List ℕ) (i w : ℕ) → field bytes i w < 2 ^ w
+field-lt bytes i w = word-lt (bitAt bytes) (bitAt-lt bytes) i w
+
+-- the 20 bits of a line are its type, its first end and its second end
+module _ (bytes : List ℕ) (at : ℕ) where
+  pub line-type : field bytes at 20 / 262_144 ≡ field bytes at 2
+  line-type = ap (λ k. k / 262_144) (word-split (bitAt bytes) at 2 18 20 refl) ∙ high (field bytes at 2) 18 (field-lt bytes (at + 2) 18)
+
+  pub line-first : field bytes at 20 / 512 % 512 ≡ field bytes (at + 2) 9
+  line-first = word-inside (bitAt bytes) (bitAt-lt bytes) at 2 9 9 20 refl
+
+  pub line-second : field bytes at 20 % 512 ≡ field bytes (at + 11) 9
+  line-second = ap (λ k. k % 512) (sym (div-one (field bytes at 20))) ∙ word-inside (bitAt bytes) (bitAt-lt bytes) at 11 9 0 20 refl
+
+  pub line-whole : (x : ℕ) → x ≡ field bytes at 20 → _≡_ {A = Line} (record { type = x / 262_144; first = x / 512 % 512; second = x % 512 }) (lineAt bytes at)
+  unfolding lineAt
+  line-whole x e = rw e (λ i. record { type = line-type i; first = line-first i; second = line-second i })

@@ -3,7 +3,7 @@ ghost use mathlib.Core.Path.{_≡_};
 ghost use Prim.Native.Nat.{ℕ, _+_, _*_, _/_, _≤_, _<_, _^_};
 ghost use lib.ListN.{length, getD};
 ghost use Rattle.rules.specs.Sheet as rules;
-ghost use Rattle.sheet.specs.Fields.{fourBytes};
+ghost use Rattle.sheet.specs.Fields.{fourBytes, lineOf};
 
 fn wide(byte: u8) -> u64
     ensures { λ r. ⌜ (r ≡ byte) × (r < 256) ⌝ }
@@ -44,4 +44,46 @@ pub fn field(bytes: &[u8], at: usize, width: usize) -> u32
     let above = at % 8 + width;
     let four = four_bytes(bytes, at / 8);
     ((four >> (32 - above)) & ((1 << width) - 1)) as u32
+}
+
+// A line of a sheet: its type (a word that the language keeps for itself) and its two ends.
+pub struct SheetLine {
+    pub sort: u16,
+    pub first: u16,
+    pub second: u16,
+}
+
+// The counts n and m of a sheet.
+pub struct SheetCounts {
+    pub vertices: u16,
+    pub lines: u16,
+}
+
+// The 20 bits of a line are read as one field.
+pub fn line_at(bytes: &[u8], at: usize) -> SheetLine
+    ensures { λ r. ⌜ lineOf r ≡ rules.lineAt (now (bytes .entry)) at ⌝ }
+{
+    let whole = field(bytes, at, 20);
+    SheetLine {
+        sort: (whole >> 18) as u16,
+        first: ((whole >> 9) % 512) as u16,
+        second: (whole % 512) as u16,
+    }
+}
+
+// The kind of vertex `i`.
+pub fn kind_at(bytes: &[u8], i: usize) -> u16
+    requires { ⌜ i < 1024 ⌝ }
+    ensures { λ r. ⌜ r ≡ rules.field (now (bytes .entry)) (22 + 6 * i) 6 ⌝ }
+{
+    field(bytes, 22 + 6 * i, 6) as u16
+}
+
+pub fn counts(bytes: &[u8]) -> SheetCounts
+    ensures { λ r. ⌜ (r .vertices ≡ rules.vertexCount (now (bytes .entry))) × (r .lines ≡ rules.lineCount (now (bytes .entry))) ⌝ }
+{
+    SheetCounts {
+        vertices: field(bytes, 0, 10) as u16,
+        lines: field(bytes, 10, 12) as u16,
+    }
 }
