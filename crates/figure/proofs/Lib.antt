@@ -4,3 +4,4 @@ pub mod Filled
 pub mod Breadth
 pub mod Lines
 pub mod Loaded
+pub mod Verdict
