@@ -1,0 +1,2 @@
+-- What the sheet's functions cite beside the rules.
+pub mod Fields

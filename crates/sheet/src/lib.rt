@@ -1,0 +1,2 @@
+// Sheets: their checks, the reader and the writer, as document 01 has them.
+pub mod fields;
