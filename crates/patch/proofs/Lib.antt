@@ -4,3 +4,4 @@ pub mod Laid
 pub mod Grown
 pub mod Rooms
 pub mod Passes
+pub mod Sheets
