@@ -5,3 +5,4 @@ pub mod Grown
 pub mod Rooms
 pub mod Passes
 pub mod Sheets
+pub mod Turns
