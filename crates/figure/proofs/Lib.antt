@@ -1,0 +1,7 @@
+-- The laws, each file after those that it uses.
+pub mod Lists
+pub mod Filled
+pub mod Breadth
+pub mod Lines
+pub mod Loaded
+pub mod Verdict

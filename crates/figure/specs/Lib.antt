@@ -1,0 +1,2 @@
+-- What the figure's contracts cite.
+pub mod FigureTables

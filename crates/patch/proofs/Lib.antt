@@ -1,0 +1,8 @@
+-- What the proofs of several functions use, each file after those that it uses.
+pub mod Runs
+pub mod Laid
+pub mod Grown
+pub mod Rooms
+pub mod Passes
+pub mod Sheets
+pub mod Turns

@@ -1,0 +1,3 @@
+-- What the patch tables hold, and what each pass of loading leaves.
+pub mod Tables
+pub mod Passes

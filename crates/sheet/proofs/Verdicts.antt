@@ -1,0 +1,198 @@
+-- The number of the first check to fail, part by part: of the checks before the lines, of one line, and of lines one after the other.
+use Prim.Native.Nat.{ℕ, zero, suc, _+_, _*_, _-_, _^_, _≤_, _<_}
+use mathlib.Core.Path.{_≡_, refl, ap, sym, _∙_}
+use mathlib.Core.Logic.{inl, inr}
+use mathlib.Core.List.{List, [], _∷_, _++_, map, List·Memᴰ·head, List·Memᴰ·tail}
+use mathlib.Core.Bool.{Bool, true, false, _&&_, and-false, false≢true}
+use mathlib.Core.Option.{some, none}
+use native.Mathlib.Nat.{zero-mul, zero-add, mul-le-mul-right}
+use native.Mathlib.Decide.{decLt}
+use native.Mathlib.Omega.{arith}
+use borrow.Author.Tests.{lt-ltb, le-ltb, le-leb, lt-leb, eq-eqb, ne-eqb, ltb-true, eqb-true, eqb-false}
+use lib.Dec.{eqb, ltb, leb}
+use lib.ListN.{length}
+use lib.Pow.{pow-pos}
+use Rattle.laws.specs.Lists.{all, upto}
+use Rattle.laws.proofs.Lists.{split}
+use Rattle.rules.specs.Sheet.{Line, bitAt, word, field, vertexCount, lineCount, bitLength, byteLength, linesHeld}
+use Rattle.rules.specs.Checks.{Check, verdict, Limits, counted, cleared, lineFits, comesAfter, lineChecks, sheetVerdict}
+use Rattle.rules.proofs.Accepted.{Numbered}
+use Rattle.sheet.specs.Check.{headChecks, lineVerdict}
+
+-- the checks of a list have numbers above 0
+abbrev pub Positive : List Check → Type 0
+Positive [] = Unit
+Positive (c ∷ cs) = (0 < c .1) × Positive cs
+
+pub numbered-positive : (cs : List Check) → Numbered cs → Positive cs
+numbered-positive [] h = tt
+numbered-positive (c ∷ cs) h = (omega (arith, h c (List·Memᴰ·head refl)), numbered-positive cs (λ d m. h d (List·Memᴰ·tail m)))
+
+-- a number from the first checks stands, and after 0 the later checks say
+pub verdict-first : (h t : List Check) → (verdict h ≡ 0 → ⊥) → verdict (h ++ t) ≡ verdict h
+unfolding verdict
+verdict-first [] t f = absurd (f refl)
+verdict-first (c ∷ cs) t f = elim (split (c .0)) [ inl e ↦ rw e (verdict-first cs t (λ z. f (rw e z))) | inr e ↦ rw e ]
+
+pub verdict-rest : (h t : List Check) → Positive h → verdict h ≡ 0 → verdict (h ++ t) ≡ verdict t
+unfolding verdict
+verdict-rest [] t p e = refl
+verdict-rest (c ∷ cs) t p e = elim (split (c .0)) [ inl d ↦ rw d (verdict-rest cs t (p .1) (rw d at e)) | inr d ↦ absurd (omega (arith, p .0, rw d at e)) ]
+
+-- the fit of a line, test by test
+module _ (n : ℕ) (l : Line) where
+  pub unfit-type : 2 < l .type → lineFits n l ≡ false
+  unfit-type h = rw (lt-leb (l .type) 2 h)
+
+  pub unfit-second : n ≤ l .second → lineFits n l ≡ false
+  unfit-second h = rw (le-ltb (l .second) n h, and-false, and-false)
+
+  pub fits-by-ends : l .type ≤ 2 → l .second < n → lineFits n l ≡ ltb (l .first) (l .second)
+  fits-by-ends h k = rw (le-leb (l .type) 2 h, lt-ltb (l .second) n k) (elim (split (ltb (l .first) (l .second))) [
+    | inl e ↦ rw (e, lt-ltb (l .first) n (omega (arith, ltb-true (l .first) (l .second) e)))
+    | inr e ↦ rw (e, and-false)
+  ])
+
+  pub unfit-order : l .second ≤ l .first → lineFits n l ≡ false
+  unfit-order h = rw (le-ltb (l .first) (l .second) h, and-false, and-false, and-false)
+
+-- the order of two lines, test by test
+module _ (k l : Line) where
+  pub after-first : k .first < l .first → comesAfter k l ≡ true
+  after-first h = rw (lt-ltb (k .first) (l .first) h)
+
+  pub not-after : l .first ≤ k .first → (k .first ≡ l .first → ⊥) → comesAfter k l ≡ false
+  not-after h d = rw (le-ltb (k .first) (l .first) h, ne-eqb (k .first) (l .first) d)
+
+  pub after-second : l .first ≤ k .first → k .first ≡ l .first → comesAfter k l ≡ ltb (k .second) (l .second)
+  after-second h e = rw (le-ltb (k .first) (l .first) h, eq-eqb (k .first) (l .first) e)
+
+-- the two checks of one line
+module _ (ten n : ℕ) (k l : Line) where
+  pub line-unfit : lineFits n l ≡ false → lineVerdict ten n k l ≡ ten + 4
+  unfolding lineVerdict verdict
+  line-unfit e = rw e
+
+  pub line-late : lineFits n l ≡ true → comesAfter k l ≡ false → lineVerdict ten n k l ≡ ten + 5
+  unfolding lineVerdict verdict
+  line-late e f = rw (e, f)
+
+  pub line-good : lineFits n l ≡ true → comesAfter k l ≡ true → lineVerdict ten n k l ≡ 0
+  unfolding lineVerdict verdict
+  line-good e f = rw (e, f)
+
+-- the line before the first
+abbrev pub nought : Line
+nought = record { type = 0; first = 0; second = 0 }
+
+pub from-nought : (ten n : ℕ) (ls : List Line) → verdict (lineChecks ten n none ls) ≡ verdict (lineChecks ten n (some nought) ls)
+unfolding verdict
+from-nought ten n [] = refl
+from-nought ten n (l ∷ ls) = elim (split (lineFits n l)) [ inl e ↦ rw (e, after e) | inr e ↦ rw e ]
+  where
+    after : lineFits n l ≡ true → comesAfter nought l ≡ true
+    after e = elim (decLt (l .first) (l .second)) [
+      | yes h ↦ elim (decLt 0 (l .first)) [
+        | yes f ↦ after-first nought l f
+        | no f ↦ after-second nought l (omega arith) (omega arith) ∙ lt-ltb 0 (l .second) (omega arith)
+      ]
+      | no h ↦ absurd (false≢true (sym (unfit-order n l (omega arith)) ∙ e))
+    ]
+
+-- lines one after the other, the i-th of which is g i
+module _ (g : ℕ → Line) (ten n m : ℕ) where
+  pub upto-step : (i : ℕ) → i < m → upto (m - i) i ≡ i ∷ upto (m - (i + 1)) (i + 1)
+  upto-step i h =
+      let e : m - i ≡ suc (m - (i + 1)) = omega arith in
+      let f : suc i ≡ i + 1 = omega arith in
+      rw (e, f)
+
+  -- the verdict on the lines from the i-th on, after line k
+  abbrev pub from : ℕ → Line → ℕ
+  from i k = verdict (lineChecks ten n (some k) (map g (upto (m - i) i)))
+
+  pub turns-begin : (k : Line) → k ≡ nought → verdict (lineChecks ten n none (map g (upto m 0))) ≡ from 0 k
+  turns-begin k e = let z : m - 0 ≡ m = omega arith in rw (e, z) (from-nought ten n (map g (upto m 0)))
+
+  pub turn-refused : (i : ℕ) (k l : Line) → i < m → l ≡ g i → (lineVerdict ten n k l ≡ 0 → ⊥) → from i k ≡ lineVerdict ten n k l
+  unfolding lineVerdict
+  turn-refused i k l h e f = rw (upto-step i h, sym e) (verdict-first ((lineFits n l, ten + 4) ∷ (comesAfter k l, ten + 5) ∷ []) _ f)
+
+  pub turn-passed : (i : ℕ) (k l : Line) → i < m → l ≡ g i → lineVerdict ten n k l ≡ 0 → from i k ≡ from (i + 1) l
+  unfolding lineVerdict
+  turn-passed i k l h e z = rw (upto-step i h, sym e) (verdict-rest ((lineFits n l, ten + 4) ∷ (comesAfter k l, ten + 5) ∷ []) _ (omega arith, (omega arith, tt)) z)
+
+  pub turns-over : (i : ℕ) (k : Line) → m ≤ i → from i k ≡ 0
+  unfolding verdict
+  turns-over i k h = let e : m - i ≡ 0 = omega arith in rw e
+
+-- fields at the same place
+pub field-same : (bytes : List ℕ) {i j v w : ℕ} → i ≡ j → v ≡ w → field bytes i v ≡ field bytes j w
+field-same bytes e f = rw (e, f)
+
+-- bits are all 0 exactly where their word is
+pub clear-word : (f : ℕ → ℕ) (w i : ℕ) → all (λ j. eqb (f j) 0) (upto w i) ≡ eqb (word f i w) 0
+unfolding word
+clear-word f zero i = refl
+clear-word f (suc w) i = rw (clear-word f w (suc i)) (elim (split (eqb (f i) 0)) [
+  | inl e ↦ let z : f i ≡ 0 = eqb-true (f i) 0 e in rw (z, zero-mul, zero-add)
+  | inr e ↦ rw (e, ne-eqb (f i * 2 ^ w + word f (suc i) w) 0 (λ z. omega (arith, pow-pos w, mul-le-mul-right {m = 1} {n = f i} (2 ^ w) (some-bit e))))
+])
+  where
+    some-bit : eqb (f i) 0 ≡ false → 1 ≤ f i
+    some-bit e = elim (decLt 0 (f i)) [ yes h ↦ h | no h ↦ absurd (eqb-false (f i) 0 e (omega arith)) ]
+
+-- the checks before the lines, one after the other
+module _ (L : Limits) (bytes : List ℕ) where
+  abbrev n : ℕ
+  n = vertexCount bytes
+
+  abbrev m : ℕ
+  m = lineCount bytes
+
+  pub head-short : length bytes < 3 → verdict (headChecks L bytes) ≡ L .ten + 1
+  unfolding verdict
+  head-short h = rw (lt-leb 3 (length bytes) h)
+
+  module _ (a : 3 ≤ length bytes) where
+    head-uncounted : counted L n m ≡ false → verdict (headChecks L bytes) ≡ L .ten + 2
+    unfolding verdict
+    head-uncounted e = rw (le-leb 3 (length bytes) a, e)
+
+    pub head-none : n ≡ 0 → verdict (headChecks L bytes) ≡ L .ten + 2
+    head-none e = head-uncounted (rw e)
+
+    pub head-vertices : L .vertices < n → verdict (headChecks L bytes) ≡ L .ten + 2
+    head-vertices h = head-uncounted (rw (lt-leb n (L .vertices) h, and-false))
+
+    pub head-lines : L .lines < m → verdict (headChecks L bytes) ≡ L .ten + 2
+    head-lines h = head-uncounted (rw (lt-leb m (L .lines) h, and-false, and-false))
+
+    module _ (b : (n ≡ 0 → ⊥) × (n ≤ L .vertices) × (m ≤ L .lines)) where
+      head-counted : counted L n m ≡ true
+      head-counted = rw (le-leb 1 n (omega arith), le-leb n (L .vertices) (b .1), le-leb m (L .lines) (b .2))
+
+      pub head-long : (length bytes ≡ byteLength n m → ⊥) → verdict (headChecks L bytes) ≡ L .ten + 1
+      unfolding verdict
+      head-long h = rw (le-leb 3 (length bytes) a, head-counted, ne-eqb (length bytes) (byteLength n m) h)
+
+      module _ (e : length bytes ≡ byteLength n m) where
+        filling : cleared bytes ≡ eqb (field bytes (bitLength n m) (8 * length bytes - bitLength n m)) 0
+        filling = clear-word (bitAt bytes) _ _
+
+        pub head-filled : (field bytes (bitLength n m) (8 * length bytes - bitLength n m) ≡ 0 → ⊥) → verdict (headChecks L bytes) ≡ L .ten + 3
+        unfolding verdict
+        head-filled h = rw (le-leb 3 (length bytes) a, head-counted, eq-eqb (length bytes) (byteLength n m) e, filling, ne-eqb _ 0 h)
+
+        pub head-good : field bytes (bitLength n m) (8 * length bytes - bitLength n m) ≡ 0 → verdict (headChecks L bytes) ≡ 0
+        unfolding verdict
+        head-good h = rw (le-leb 3 (length bytes) a, head-counted, eq-eqb (length bytes) (byteLength n m) e, filling, eq-eqb _ 0 h)
+
+  -- a sheet's number is that of the checks before its lines, or else that of its lines
+  pub sheet-head : (verdict (headChecks L bytes) ≡ 0 → ⊥) → sheetVerdict L bytes ≡ verdict (headChecks L bytes)
+  unfolding sheetVerdict
+  sheet-head f = verdict-first (headChecks L bytes) (lineChecks (L .ten) n none (linesHeld bytes n m)) f
+
+  pub sheet-lines : verdict (headChecks L bytes) ≡ 0 → sheetVerdict L bytes ≡ verdict (lineChecks (L .ten) n none (linesHeld bytes n m))
+  unfolding sheetVerdict
+  sheet-lines z = verdict-rest (headChecks L bytes) (lineChecks (L .ten) n none (linesHeld bytes n m)) (omega arith, (omega arith, (omega arith, (omega arith, tt)))) z

@@ -1,0 +1,3 @@
+// Sheets: their checks, the reader and the writer, as document 01 has them.
+pub mod check;
+pub mod fields;
