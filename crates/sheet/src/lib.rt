@@ -1,3 +1,4 @@
 // Sheets: their checks, the reader and the writer, as document 01 has them.
 pub mod check;
 pub mod fields;
+pub mod reader;
