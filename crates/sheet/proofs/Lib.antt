@@ -3,3 +3,4 @@ pub mod Words
 pub mod Verdicts
 pub mod Stores
 pub mod Reading
+pub mod Pens

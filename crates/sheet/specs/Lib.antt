@@ -2,3 +2,4 @@
 pub mod Fields
 pub mod Check
 pub mod Answers
+pub mod Pen
