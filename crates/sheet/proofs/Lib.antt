@@ -1,3 +1,6 @@
 -- What the proofs of several functions use.
 pub mod Words
 pub mod Verdicts
+pub mod Stores
+pub mod Reading
+pub mod Pens

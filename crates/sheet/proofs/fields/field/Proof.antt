@@ -33,19 +33,19 @@ shl-result c = search needs
 
 -- src/fields.rt:46:32
 sub-result-2 : tie.Need-sub-result-2
-sub-result-2 c = let a = c .before .before .args in omega (arith, ones (a .width) (c .before .before .pre), pow-pos (a .width))
+sub-result-2 c = let a = c .before .before .args in omega (arith, ones 64 (a .width) (omega arith), pow-pos (a .width))
 
 -- src/fields.rt:46:5
 cast-result : tie.Need-cast-result
 cast-result c = let a = c .before .before .args in
     let x = c .four-bytes .result / 2 ^ (32 - (a .at % 8 + a .width)) in
-    record { fits = omega (arith, masked x (a .width) (c .before .before .pre), mod-lt x (pow-pos (a .width)), pow-mono {i = a .width} {j = 25} (c .before .before .pre)) }
+    record { fits = omega (arith, masked 64 x (a .width) (omega arith), mod-lt x (pow-pos (a .width)), pow-mono {i = a .width} {j = 25} (c .before .before .pre)) }
 
 -- src/fields.rt:40:1
 returns : tie.Need-returns
 returns c = let a = c .before .before .args in
     let x = c .four-bytes .result / 2 ^ (32 - (a .at % 8 + a .width)) in
-    masked x (a .width) (c .before .before .pre) ∙ ap (λ k. k / 2 ^ (32 - (a .at % 8 + a .width)) % 2 ^ a .width) (c .four-bytes .ensures .0) ∙ sym (field-four (a .bytes .now) (λ i. omega (arith, c .before .shared-slice-known .given i)) (a .at) (a .width) (c .before .before .pre))
+    masked 64 x (a .width) (omega arith) ∙ ap (λ k. k / 2 ^ (32 - (a .at % 8 + a .width)) % 2 ^ a .width) (c .four-bytes .ensures .0) ∙ sym (field-four (a .bytes .now) (λ i. omega (arith, c .before .shared-slice-known .given i)) (a .at) (a .width) (c .before .before .pre))
 
 pub field-spec : {M : Type 1} → statement M
 field-spec =
