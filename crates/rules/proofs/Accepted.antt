@@ -71,6 +71,17 @@ unfolding verdict
 verdict-number [] h = inl refl
 verdict-number (c ∷ cs) h = elim (split (c .0)) [ inl e ↦ rw e (verdict-number cs (λ d m. h d (List·Memᴰ·tail m))) | inr e ↦ rw e (inr (h c (List·Memᴰ·head refl))) ]
 
+-- a number from the first checks stands, and after 0 the later checks say
+pub verdict-first : (cs ds : List Check) → (verdict cs ≡ 0 → ⊥) → verdict (cs ++ ds) ≡ verdict cs
+unfolding verdict
+verdict-first [] ds f = absurd (f refl)
+verdict-first (c ∷ cs) ds f = elim (split (c .0)) [ inl e ↦ rw e (verdict-first cs ds (λ z. f (rw e z))) | inr e ↦ rw e ]
+
+pub verdict-rest : {ns : List ℕ} → From11 ns → (cs ds : List Check) → Numbered ns cs → verdict cs ≡ 0 → verdict (cs ++ ds) ≡ verdict ds
+unfolding verdict
+verdict-rest f [] ds n h = refl
+verdict-rest f (c ∷ cs) ds n h = elim (split (c .0)) [ inl e ↦ rw e (verdict-rest f cs ds (λ d m. n d (List·Memᴰ·tail m)) (rw e at h)) | inr e ↦ absurd (omega (arith, from-11 f (n c (List·Memᴰ·head refl)), rw e at h)) ]
+
 pub verdict-append : {ns : List ℕ} → From11 ns → (cs ds : List Check) → Numbered ns cs → (verdict (cs ++ ds) ≡ 0) ↔ ((verdict cs ≡ 0) × (verdict ds ≡ 0))
 unfolding verdict
 verdict-append f [] ds h = (λ v. (refl, v), λ v. v .1)
@@ -207,18 +218,19 @@ tens ten a b c d e (suc (suc (suc zero))) h = d
 tens ten a b c d e (suc (suc (suc (suc zero)))) h = e
 tens ten a b c d e (suc (suc (suc (suc (suc i))))) h = absurd (omega arith)
 
+-- the checks of the search, part by part
+pub figure-sheet-numbered : (figure : List ℕ) → Numbered searchRefusals (sheetChecks figureLimits figure)
+figure-sheet-numbered = sheet-numbered figureLimits (tens 10 (has-out 11 _ refl) (has-out 12 _ refl) (has-out 13 _ refl) (has-out 14 _ refl) (has-out 15 _ refl))
+
+pub figure-numbered : (figure : List ℕ) → Numbered searchRefusals (figureChecks figure)
+figure-numbered figure = numbered-append (sheetChecks figureLimits figure) (figure-sheet-numbered figure) (numbered-cons (has-out 16 _ refl) numbered-nil)
+
+pub patch-numbered : (patch : List ℕ) → Numbered searchRefusals (sheetChecks patchLimits patch)
+patch-numbered = sheet-numbered patchLimits (tens 20 (has-out 21 _ refl) (has-out 22 _ refl) (has-out 23 _ refl) (has-out 24 _ refl) (has-out 25 _ refl))
+
 module _ (figure patch memory : List ℕ) where
-  figure-sheet-numbered : Numbered searchRefusals (sheetChecks figureLimits figure)
-  figure-sheet-numbered = sheet-numbered figureLimits (tens 10 (has-out 11 _ refl) (has-out 12 _ refl) (has-out 13 _ refl) (has-out 14 _ refl) (has-out 15 _ refl)) figure
-
-  figure-numbered : Numbered searchRefusals (figureChecks figure)
-  figure-numbered = numbered-append (sheetChecks figureLimits figure) figure-sheet-numbered (numbered-cons (has-out 16 _ refl) numbered-nil)
-
-  patch-numbered : Numbered searchRefusals (sheetChecks patchLimits patch)
-  patch-numbered = sheet-numbered patchLimits (tens 20 (has-out 21 _ refl) (has-out 22 _ refl) (has-out 23 _ refl) (has-out 24 _ refl) (has-out 25 _ refl)) patch
-
   pub search-numbered : Numbered searchRefusals (searchChecks figure patch memory)
-  search-numbered = numbered-append (figureChecks figure) figure-numbered (numbered-append (sheetChecks patchLimits patch) patch-numbered (numbered-cons (has-out 31 _ refl) numbered-nil))
+  search-numbered = numbered-append (figureChecks figure) (figure-numbered figure) (numbered-append (sheetChecks patchLimits patch) (patch-numbered patch) (numbered-cons (has-out 31 _ refl) numbered-nil))
 
   -- a search is not refused exactly where it is handed what the checks say
   pub handed-iff : (verdict (searchChecks figure patch memory) ≡ 0) ↔ Handed figure patch memory
@@ -237,13 +249,13 @@ module _ (figure patch memory : List ℕ) where
       linked A = let D = figure-drawn figure A in connected-iff (figureOf figure) (D .0) (D .1)
 
       s : (verdict (figureChecks figure) ≡ 0) ↔ ((verdict (sheetChecks figureLimits figure) ≡ 0) × (verdict ((connected (figureOf figure), 16) ∷ []) ≡ 0))
-      s = verdict-append {ns = searchRefusals} refl (sheetChecks figureLimits figure) _ figure-sheet-numbered
+      s = verdict-append {ns = searchRefusals} refl (sheetChecks figureLimits figure) _ (figure-sheet-numbered figure)
 
       p : (verdict (sheetChecks patchLimits patch ++ (leb 22_528 (length memory), 31) ∷ []) ≡ 0) ↔ ((verdict (sheetChecks patchLimits patch) ≡ 0) × (verdict ((leb 22_528 (length memory), 31) ∷ []) ≡ 0))
-      p = verdict-append {ns = searchRefusals} refl (sheetChecks patchLimits patch) _ patch-numbered
+      p = verdict-append {ns = searchRefusals} refl (sheetChecks patchLimits patch) _ (patch-numbered patch)
 
       f : (verdict (searchChecks figure patch memory) ≡ 0) ↔ ((verdict (figureChecks figure) ≡ 0) × (verdict (sheetChecks patchLimits patch ++ (leb 22_528 (length memory), 31) ∷ []) ≡ 0))
-      f = verdict-append {ns = searchRefusals} refl (figureChecks figure) _ figure-numbered
+      f = verdict-append {ns = searchRefusals} refl (figureChecks figure) _ (figure-numbered figure)
 
 -- and then the figure is what the demands ask for
 pub handed-checked : {figure patch memory : List ℕ} → Handed figure patch memory → Checked (figureOf figure)

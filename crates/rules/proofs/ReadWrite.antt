@@ -45,7 +45,7 @@ length-linesOf (t ∷ (a ∷ [])) = refl
 length-linesOf (t ∷ (a ∷ (b ∷ r))) = omega (arith, length-linesOf r)
 
 -- the reader
-reader-sheet-numbered : (bytes : List ℕ) → Numbered readerRefusals (sheetChecks patchLimits bytes)
+pub reader-sheet-numbered : (bytes : List ℕ) → Numbered readerRefusals (sheetChecks patchLimits bytes)
 reader-sheet-numbered = sheet-numbered patchLimits (tens 20 (has-out 21 _ refl) (has-out 22 _ refl) (has-out 23 _ refl) (has-out 24 _ refl) (has-out 25 _ refl))
 
 module _ (bytes ks ls : List ℕ) where

@@ -9,9 +9,9 @@ use lib.Dec.{leb}
 use lib.ListN.{length}
 use Rattle.rules.specs.Sheet.{vertexCount, lineCount, kindsHeld, linesHeld}
 use Rattle.rules.specs.Checks.{Check, verdict, patchLimits, sheetChecks, sheetVerdict}
-use Rattle.rules.specs.Calls.{over, triples, Read, readerChecks, reader}
-use Rattle.rules.proofs.Accepted.{sheet-numbered, accepted-iff}
-use Rattle.rules.proofs.ReadWrite.{reader-taken}
+use Rattle.rules.specs.Calls.{over, triples, Read, readerChecks, readerRefusals, reader}
+use Rattle.rules.proofs.Accepted.{accepted-iff}
+use Rattle.rules.proofs.ReadWrite.{reader-taken, reader-sheet-numbered}
 use Rattle.sheet.specs.declared.reader.ReadAnswer.{ReadAnswer}
 use Rattle.sheet.specs.Answers.{asRead}
 use Rattle.sheet.proofs.Verdicts.{verdict-first, verdict-rest, numbered-positive}
@@ -37,7 +37,7 @@ module _ (bytes ks ls : List ℕ) where
   module _ (good : sheetVerdict patchLimits bytes ≡ 0) where
     spaced : verdict (readerChecks bytes ks ls) ≡ verdict (space ∷ [])
     unfolding sheetVerdict
-    spaced = verdict-rest (sheetChecks patchLimits bytes) (space ∷ []) (numbered-positive (sheetChecks patchLimits bytes) (sheet-numbered patchLimits (omega arith) bytes)) good
+    spaced = verdict-rest (sheetChecks patchLimits bytes) (space ∷ []) (numbered-positive {ns = readerRefusals} refl (sheetChecks patchLimits bytes) (reader-sheet-numbered bytes)) good
 
     module _ (r : ReadAnswer) (h : (r .number ≡ 33) × (r .vertices ≡ 0) × (r .lines ≡ 0)) where
       pub by-kinds : length ks < vertexCount bytes → asRead r ks ls ≡ reader bytes ks ls

@@ -16,7 +16,7 @@ use Rattle.laws.specs.Lists.{all, upto}
 use Rattle.laws.proofs.Lists.{split}
 use Rattle.rules.specs.Sheet.{Line, bitAt, word, field, vertexCount, lineCount, bitLength, byteLength, linesHeld}
 use Rattle.rules.specs.Checks.{Check, verdict, Limits, counted, cleared, lineFits, comesAfter, lineChecks, sheetVerdict}
-use Rattle.rules.proofs.Accepted.{Numbered}
+use Rattle.rules.proofs.Accepted.{Numbered, From11, from-11}
 use Rattle.sheet.specs.Check.{headChecks, lineVerdict}
 
 -- the checks of a list have numbers above 0
@@ -24,9 +24,9 @@ abbrev pub Positive : List Check → Type 0
 Positive [] = Unit
 Positive (c ∷ cs) = (0 < c .1) × Positive cs
 
-pub numbered-positive : (cs : List Check) → Numbered cs → Positive cs
-numbered-positive [] h = tt
-numbered-positive (c ∷ cs) h = (omega (arith, h c (List·Memᴰ·head refl)), numbered-positive cs (λ d m. h d (List·Memᴰ·tail m)))
+pub numbered-positive : {ns : List ℕ} → From11 ns → (cs : List Check) → Numbered ns cs → Positive cs
+numbered-positive f [] h = tt
+numbered-positive f (c ∷ cs) h = (omega (arith, from-11 f (h c (List·Memᴰ·head refl))), numbered-positive f cs (λ d m. h d (List·Memᴰ·tail m)))
 
 -- a number from the first checks stands, and after 0 the later checks say
 pub verdict-first : (h t : List Check) → (verdict h ≡ 0 → ⊥) → verdict (h ++ t) ≡ verdict h
