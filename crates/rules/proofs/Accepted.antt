@@ -99,7 +99,7 @@ fits-iff n l = (there, λ h. rw (le-leb (l .type) 2 (h .0), lt-ltb (l .first) n 
     there e = let a = and-eq-true-iff (leb (l .type) 2) _ .0 e in let b = and-eq-true-iff (ltb (l .first) n) _ .0 (a .1) in let c = and-eq-true-iff (ltb (l .second) n) _ .0 (b .1) in (leb-true (l .type) 2 (a .0), ltb-true (l .first) (l .second) (c .1), ltb-true (l .second) n (c .0))
 
 -- what it says that a line comes after another, and that is carried on
-after-out : (k l : Line) → comesAfter k l ≡ true → (k .first < l .first) ⊎ ((k .first ≡ l .first) × (k .second < l .second))
+pub after-out : (k l : Line) → comesAfter k l ≡ true → (k .first < l .first) ⊎ ((k .first ≡ l .first) × (k .second < l .second))
 after-out k l e = elim (split (ltb (k .first) (l .first))) [
   | inl t ↦ inl (ltb-true _ _ t)
   | inr t ↦ let b = and-eq-true-iff (eqb (k .first) (l .first)) _ .0 (rw t at e) in inr (eqb-true _ _ (b .0), ltb-true _ _ (b .1))
