@@ -7,6 +7,7 @@ ghost use Rattle.rules.specs.Checks.{verdict, lineFits, comesAfter, lineChecks,
 ghost use Rattle.sheet.specs.Fields.{lineOf};
 ghost use Rattle.sheet.specs.Check.{limitsOf, headChecks, lineVerdict};
 use crate::fields::SheetLine;
+use crate::fields::bit_length;
 use crate::fields::counts;
 use crate::fields::field;
 use crate::fields::line_at;
@@ -110,7 +111,7 @@ fn check_head(sheet: &[u8], limits: SheetLimits) -> u16
     if limits.lines < c.lines {
         return limits.ten + 2;
     }
-    let end = 22 + 6 * (c.vertices as usize) + 20 * (c.lines as usize);
+    let end = bit_length(c.vertices as usize, c.lines as usize);
     if sheet.len() != (end + 7) / 8 {
         return limits.ten + 1;
     }
