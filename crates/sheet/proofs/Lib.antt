@@ -6,3 +6,4 @@ pub mod Reading
 pub mod Pens
 pub mod Lines
 pub mod Writing
+pub mod Theorems

@@ -13,7 +13,7 @@ use crate::fields::field;
 use crate::fields::line_at;
 
 // The most vertices and lines that a sheet may have, and the ten that its checks are numbered from.
-pub struct SheetLimits {
+pub(crate) struct SheetLimits {
     pub vertices: u16,
     pub lines: u16,
     pub ten: u16,
@@ -24,7 +24,7 @@ pub struct Verdict {
     pub number: u16,
 }
 
-pub fn line_fits(line: SheetLine, n: u16) -> bool
+pub(crate) fn line_fits(line: SheetLine, n: u16) -> bool
     ensures { λ r. ⌜ r ≡ lineFits n (lineOf line) ⌝ }
 {
     if 2 < line.sort {
@@ -36,7 +36,7 @@ pub fn line_fits(line: SheetLine, n: u16) -> bool
     line.first < line.second
 }
 
-pub fn comes_after(before: SheetLine, line: SheetLine) -> bool
+pub(crate) fn comes_after(before: SheetLine, line: SheetLine) -> bool
     ensures { λ r. ⌜ r ≡ comesAfter (lineOf before) (lineOf line) ⌝ }
 {
     if before.first < line.first {
@@ -49,7 +49,7 @@ pub fn comes_after(before: SheetLine, line: SheetLine) -> bool
 }
 
 // The number that the checks of one line give: its fit before its order.
-pub fn line_number(before: SheetLine, line: SheetLine, n: u16, ten: u16) -> u16
+pub(crate) fn line_number(before: SheetLine, line: SheetLine, n: u16, ten: u16) -> u16
     requires { ⌜ ten ≤ 20 ⌝ }
     ensures { λ r. ⌜ r ≡ lineVerdict ten n (lineOf before) (lineOf line) ⌝ }
 {
@@ -63,7 +63,7 @@ pub fn line_number(before: SheetLine, line: SheetLine, n: u16, ten: u16) -> u16
 }
 
 // The line before the first: every line that fits comes after it.
-pub fn no_line() -> SheetLine
+pub(crate) fn no_line() -> SheetLine
     ensures { λ r. ⌜ lineOf r ≡ record { type = 0; first = 0; second = 0 } ⌝ }
 {
     SheetLine {
