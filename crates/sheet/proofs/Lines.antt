@@ -1,5 +1,5 @@
 -- The bits of kinds and lines, one more at a time, and a list of (type, first, second) line by line.
-use Prim.Native.Nat.{ℕ, zero, suc, _+_, _*_, _-_, _/_, _%_, _^_, _≤_, _<_}
+use Prim.Native.Nat.{ℕ, zero, suc, _+_, _*_, _/_, _%_, _^_, _≤_, _<_}
 use mathlib.Core.Path.{_≡_, refl, ap, ap₂, sym, _∙_}
 use mathlib.Core.List.{List, [], _∷_, _++_, map, append-assoc, append-nil, List·Memᴰ}
 use native.Mathlib.Nat.{add-comm, mul-assoc, pow-succ', add-mul-div-right, add-mul-mod-self-right}

@@ -3,11 +3,10 @@ use Prim.Native.Nat.{ℕ, _*_, _/_, _≤_}
 use mathlib.Core.Path.{_≡_, ap, sym, _∙_}
 use mathlib.Core.Logic.{⊎-elim}
 use mathlib.Core.List.{List}
-use native.Mathlib.Omega.{arith}
 use lib.ListN.{length, take, drop}
-use Rattle.rules.specs.Sheet.{Bytes, Line, vertexCount, lineCount, lineAt}
+use Rattle.rules.specs.Sheet.{Bytes, Line, vertexCount, lineCount}
 use Rattle.rules.specs.Checks.{Limits, figureLimits, patchLimits, sheetVerdict}
-use Rattle.rules.specs.Calls.{over, Read, Written, ReaderHanded, WriterHanded, reader, writer}
+use Rattle.rules.specs.Calls.{over, ReaderHanded, WriterHanded, reader, writer}
 use Rattle.rules.proofs.ReadWrite.{reader-taken, reader-either, reader-writer, reader-untouched, writer-taken, writer-either, writer-reader, writer-untouched}
 use Rattle.sheet.specs.declared.fields.SheetLine.{SheetLine}
 use Rattle.sheet.specs.declared.fields.SheetCounts.{SheetCounts}

@@ -3,14 +3,14 @@ use Prim.Native.Nat.{ℕ, zero, suc, _+_, _*_, _-_, _/_, _%_, _^_, _≤_, _<_}
 use mathlib.Core.Path.{_≡_, refl, ap, ap₂, sym, _∙_}
 use mathlib.Core.Logic.{⊎-elim}
 use mathlib.Core.Bool.{true, false, and-false}
-use mathlib.Core.List.{List, [], _∷_, _++_, append-assoc}
+use mathlib.Core.List.{List, [], _∷_, _++_}
 use mathlib.Core.Option.{none}
 use native.Mathlib.Nat.{zero-div}
 use native.Mathlib.Omega.{arith}
 use borrow.Author.Tests.{le-leb, lt-leb, eq-eqb, ne-eqb}
 use lib.Dec.{eqb, leb}
 use lib.ListN.{length, getD, drop}
-use Rattle.laws.specs.Lists.{all, upto}
+use Rattle.laws.specs.Lists.{all}
 use Rattle.laws.proofs.Lists.{map-upto, length-map-upto, getD-in}
 use Rattle.rules.specs.Sheet.{Sheet, word, bits, kindBits, lineBits, layout, packed, bitLength, byteLength, written}
 use Rattle.rules.specs.Checks.{Check, verdict, patchLimits, counted, lineChecks}

@@ -1,60 +1,44 @@
-use Rattle.sheet.proofs.Writing.{lists-small, by-lists, by-room, kinds-fit, lines-fit, by-bytes}
-use Rattle.sheet.specs.Writing.{listChecks}
-use Rattle.rules.specs.Checks.{verdict}
-use lib.ListN.{length}
-use native.Mathlib.Omega.{arith}
+-- `sheet::writer::write` meets its contract: each return is what `writer` gives where that check is the first to fail. Assumes nothing.
+use Prim.Native.Nat.{_/_, _+_}
 use mathlib.Core.Path.{_≡_, refl, sym, _∙_, ap}
-use Prim.Native.Nat.{_≤_, _/_, _+_, _*_}
+use native.Mathlib.Omega.{arith}
 use borrow.Author.Needs.{needs}
+use Rattle.rules.specs.Checks.{verdict}
+use Rattle.sheet.specs.Writing.{listChecks}
+use Rattle.sheet.proofs.Writing.{lists-small, by-lists, by-room, kinds-fit, lines-fit, by-bytes}
 use Rattle.sheet.proofs.writer.write.Statement.{statement}
 use Rattle.sheet.proofs.writer.write.Tie as tie
-use Rattle.sheet.proofs.writer.write.Reads as reads
-use Rattle.sheet.proofs.writer.write.Lts as lts
-use Rattle.sheet.proofs.fields.bit_length.Reads as bit-length-reads
-use Rattle.sheet.proofs.writer.check_lists.Reads as check-lists-reads
-use Rattle.sheet.proofs.writer.unwritten.Reads as unwritten-reads
-use Rattle.sheet.proofs.writer.write_sheet.Reads as write-sheet-reads
 
--- src/writer.rt:152:9
 check-lists-requires : tie.Need-check-lists-requires
 check-lists-requires c κs = search needs
 
--- src/writer.rt:154:9
 unwritten-requires : tie.Need-unwritten-requires
 unwritten-requires c κs = search needs
 
--- src/writer.rt:154:9
 returns : tie.Need-returns
 returns c = let a = c .before .before .before .before .before .before .args in by-lists (a .kinds .now) (a .lines .now) (a .bytes .now) (c .unwritten .result) _ (c .unwritten .ensures) (c .before .before .check-lists .ensures) (λ z. omega arith)
 
--- src/writer.rt:156:18
 bit-length-requires : tie.Need-bit-length-requires
 bit-length-requires c κs = let a = c .before .before .before .before .before .args in omega (arith, lists-small (a .kinds .now) (a .lines .now) (sym (c .before .check-lists .ensures) ∙ c .if1 .left))
 
--- src/writer.rt:156:18
 add-count : tie.Need-add-count
 add-count c = let a = c .before .before .before .before .before .before .args in omega (arith, c .bit-length .ensures, lists-small (a .kinds .now) (a .lines .now) (sym (c .before .before .check-lists .ensures) ∙ c .before .if1 .left))
 
--- src/writer.rt:158:9
 unwritten-requires-2 : tie.Need-unwritten-requires-2
 unwritten-requires-2 c κs = search needs
 
--- src/writer.rt:158:9
 returns-2 : tie.Need-returns-2
 returns-2 c = let a = c .before .before .before .before .before .before .before .before .args in by-room (a .kinds .now) (a .lines .now) (a .bytes .now) (sym (c .before .before .before .before .check-lists .ensures) ∙ c .before .before .before .if1 .left) (c .unwritten2 .result) (c .unwritten2 .ensures) (omega arith)
 
--- src/writer.rt:160:5
 write-sheet-requires : tie.Need-write-sheet-requires
 write-sheet-requires c κs = let a = c .before .before .before .before .before .before .before .before .args in
     let z : verdict (listChecks (a .kinds .now) (a .lines .now)) ≡ 0 = sym (c .before .before .before .before .check-lists .ensures) ∙ c .before .before .before .if1 .left in
     let t = lists-small (a .kinds .now) (a .lines .now) z in
     (omega arith, omega arith, kinds-fit (a .kinds .now) (a .lines .now) (a .bytes .now) z (omega arith), lines-fit (a .kinds .now) (a .lines .now) (a .bytes .now) z (omega arith), omega arith)
 
--- src/writer.rt:149:1
 same-length : tie.Need-same-length
 same-length c = search needs
 
--- src/writer.rt:149:1
 returns-3 : tie.Need-returns-3
 returns-3 c = let a = c .before .before .before .before .before .before .before .before .before .before .before .args in
     let z : verdict (listChecks (a .kinds .now) (a .lines .now)) ≡ 0 = sym (c .before .before .before .before .before .before .before .check-lists .ensures) ∙ c .before .before .before .before .before .before .if1 .left in
