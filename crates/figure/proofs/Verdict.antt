@@ -5,7 +5,7 @@ use mathlib.Core.Bool.{Bool}
 use mathlib.Core.List.{List, [], _∷_}
 use Rattle.rules.specs.Checks.{Check, verdict, sheetVerdict, sheetChecks, figureLimits, Accepted}
 use Rattle.rules.specs.Calls.{connected, figureOf, figureChecks, searchRefusals}
-use Rattle.rules.proofs.Accepted.{verdict-first, verdict-rest, figure-sheet-numbered, accepted-iff}
+use Rattle.rules.proofs.Accepted.{verdict-first, verdict-rest, numbered-positive, figure-sheet-numbered, accepted-iff}
 
 module _ (bytes : List ℕ) where
   -- the figure's checks after its sheet's verdict
@@ -19,4 +19,4 @@ module _ (bytes : List ℕ) where
 
   pub whole-verdict : (k : ℕ) → k ≡ sheetVerdict figureLimits bytes → k ≡ 0 → (b : Bool) → b ≡ connected (figureOf bytes) → verdict ((b, 16) ∷ []) ≡ verdict (figureChecks bytes)
   unfolding sheetVerdict
-  whole-verdict k e h b q = ap (λ t. verdict ((t, 16) ∷ [])) q ∙ sym (verdict-rest {ns = searchRefusals} refl (sheetChecks figureLimits bytes) _ (figure-sheet-numbered bytes) (sym e ∙ h))
+  whole-verdict k e h b q = ap (λ t. verdict ((t, 16) ∷ [])) q ∙ sym (verdict-rest (sheetChecks figureLimits bytes) _ (numbered-positive {ns = searchRefusals} refl (sheetChecks figureLimits bytes) (figure-sheet-numbered bytes)) (sym e ∙ h))

@@ -71,16 +71,25 @@ unfolding verdict
 verdict-number [] h = inl refl
 verdict-number (c ∷ cs) h = elim (split (c .0)) [ inl e ↦ rw e (verdict-number cs (λ d m. h d (List·Memᴰ·tail m))) | inr e ↦ rw e (inr (h c (List·Memᴰ·head refl))) ]
 
+-- the checks of a list have numbers above 0
+abbrev pub Positive : List Check → Type 0
+Positive [] = Unit
+Positive (c ∷ cs) = (0 < c .1) × Positive cs
+
+pub numbered-positive : {ns : List ℕ} → From11 ns → (cs : List Check) → Numbered ns cs → Positive cs
+numbered-positive f [] h = tt
+numbered-positive f (c ∷ cs) h = (omega (arith, from-11 f (h c (List·Memᴰ·head refl))), numbered-positive f cs (λ d m. h d (List·Memᴰ·tail m)))
+
 -- a number from the first checks stands, and after 0 the later checks say
 pub verdict-first : (cs ds : List Check) → (verdict cs ≡ 0 → ⊥) → verdict (cs ++ ds) ≡ verdict cs
 unfolding verdict
 verdict-first [] ds f = absurd (f refl)
 verdict-first (c ∷ cs) ds f = elim (split (c .0)) [ inl e ↦ rw e (verdict-first cs ds (λ z. f (rw e z))) | inr e ↦ rw e ]
 
-pub verdict-rest : {ns : List ℕ} → From11 ns → (cs ds : List Check) → Numbered ns cs → verdict cs ≡ 0 → verdict (cs ++ ds) ≡ verdict ds
+pub verdict-rest : (cs ds : List Check) → Positive cs → verdict cs ≡ 0 → verdict (cs ++ ds) ≡ verdict ds
 unfolding verdict
-verdict-rest f [] ds n h = refl
-verdict-rest f (c ∷ cs) ds n h = elim (split (c .0)) [ inl e ↦ rw e (verdict-rest f cs ds (λ d m. n d (List·Memᴰ·tail m)) (rw e at h)) | inr e ↦ absurd (omega (arith, from-11 f (n c (List·Memᴰ·head refl)), rw e at h)) ]
+verdict-rest [] ds p h = refl
+verdict-rest (c ∷ cs) ds p h = elim (split (c .0)) [ inl e ↦ rw e (verdict-rest cs ds (p .1) (rw e at h)) | inr e ↦ absurd (omega (arith, p .0, rw e at h)) ]
 
 pub verdict-append : {ns : List ℕ} → From11 ns → (cs ds : List Check) → Numbered ns cs → (verdict (cs ++ ds) ≡ 0) ↔ ((verdict cs ≡ 0) × (verdict ds ≡ 0))
 unfolding verdict

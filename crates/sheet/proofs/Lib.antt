@@ -4,3 +4,6 @@ pub mod Verdicts
 pub mod Stores
 pub mod Reading
 pub mod Pens
+pub mod Lines
+pub mod Writing
+pub mod Theorems

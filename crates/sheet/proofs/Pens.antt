@@ -1,18 +1,17 @@
 -- Bits put down by whole bytes: one byte goes out, a field is added, and one thing after another.
-use Prim.Native.Nat.{ℕ, zero, suc, _+_, _*_, _-_, _/_, _%_, _^_, _≤_, _<_}
+use Prim.Native.Nat.{ℕ, _+_, _*_, _/_, _%_, _^_, _≤_, _<_}
 use mathlib.Core.Path.{_≡_, refl, ap, ap₂, sym, _∙_}
-use mathlib.Core.List.{List, [], _∷_, _++_, map, append-assoc, append-nil}
+use mathlib.Core.List.{List, [], _++_, append-assoc, append-nil}
 use native.Mathlib.Nat.{mod-lt}
 use native.Mathlib.Omega.{arith}
 use lib.ListN.{length, getD, drop, set, length-append, length-set, List·getD-append}
 use lib.Pow.{pow-pos, pow-mono, pow-add, high, low, shl-exact}
 use lib.Arith.{digits-lt}
-use Rattle.laws.specs.Lists.{upto}
 use Rattle.laws.proofs.Lists.{map-upto}
 use Rattle.rules.specs.Sheet.{word, bits, packed}
 use Rattle.rules.proofs.Fields.{word-same, word-lt, word-at, length-bits, two-append, two-bits}
 use Rattle.sheet.specs.declared.pen.Pen.{Pen}
-use Rattle.sheet.specs.Pen.{Penned, Able, Added}
+use Rattle.sheet.specs.Pen.{Penned, Added}
 use Rattle.sheet.proofs.Words.{word-split}
 use Rattle.sheet.proofs.Stores.{number-put}
 

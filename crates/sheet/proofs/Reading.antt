@@ -1,7 +1,7 @@
 -- What the reader returns, by the first of its checks to fail.
 use Prim.Native.Nat.{ℕ, zero, suc, _*_, _≤_, _<_}
 use mathlib.Core.Path.{_≡_, refl, ap, ap₂, sym, _∙_}
-use mathlib.Core.Bool.{false, _&&_, and-false}
+use mathlib.Core.Bool.{_&&_, and-false}
 use mathlib.Core.List.{List, [], _∷_}
 use native.Mathlib.Omega.{arith}
 use borrow.Author.Tests.{lt-leb}
@@ -9,12 +9,11 @@ use lib.Dec.{leb}
 use lib.ListN.{length}
 use Rattle.rules.specs.Sheet.{vertexCount, lineCount, kindsHeld, linesHeld}
 use Rattle.rules.specs.Checks.{Check, verdict, patchLimits, sheetChecks, sheetVerdict}
-use Rattle.rules.specs.Calls.{over, triples, Read, readerChecks, readerRefusals, reader}
-use Rattle.rules.proofs.Accepted.{accepted-iff}
+use Rattle.rules.specs.Calls.{over, triples, readerChecks, readerRefusals, reader}
+use Rattle.rules.proofs.Accepted.{accepted-iff, verdict-first, verdict-rest, numbered-positive}
 use Rattle.rules.proofs.ReadWrite.{reader-taken, reader-sheet-numbered}
 use Rattle.sheet.specs.declared.reader.ReadAnswer.{ReadAnswer}
 use Rattle.sheet.specs.Answers.{asRead}
-use Rattle.sheet.proofs.Verdicts.{verdict-first, verdict-rest, numbered-positive}
 
 module _ (bytes ks ls : List ℕ) where
   abbrev space : Check

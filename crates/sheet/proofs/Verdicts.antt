@@ -1,43 +1,23 @@
 -- The number of the first check to fail, part by part: of the checks before the lines, of one line, and of lines one after the other.
 use Prim.Native.Nat.{ℕ, zero, suc, _+_, _*_, _-_, _^_, _≤_, _<_}
-use mathlib.Core.Path.{_≡_, refl, ap, sym, _∙_}
+use mathlib.Core.Path.{_≡_, refl, sym, _∙_}
 use mathlib.Core.Logic.{inl, inr}
 use mathlib.Core.List.{List, [], _∷_, _++_, map, List·Memᴰ·head, List·Memᴰ·tail}
-use mathlib.Core.Bool.{Bool, true, false, _&&_, and-false, false≢true}
+use mathlib.Core.Bool.{true, false, and-false, false≢true}
 use mathlib.Core.Option.{some, none}
 use native.Mathlib.Nat.{zero-mul, zero-add, mul-le-mul-right}
 use native.Mathlib.Decide.{decLt}
 use native.Mathlib.Omega.{arith}
 use borrow.Author.Tests.{lt-ltb, le-ltb, le-leb, lt-leb, eq-eqb, ne-eqb, ltb-true, eqb-true, eqb-false}
-use lib.Dec.{eqb, ltb, leb}
+use lib.Dec.{eqb, ltb}
 use lib.ListN.{length}
 use lib.Pow.{pow-pos}
 use Rattle.laws.specs.Lists.{all, upto}
 use Rattle.laws.proofs.Lists.{split}
 use Rattle.rules.specs.Sheet.{Line, bitAt, word, field, vertexCount, lineCount, bitLength, byteLength, linesHeld}
 use Rattle.rules.specs.Checks.{Check, verdict, Limits, counted, cleared, lineFits, comesAfter, lineChecks, sheetVerdict}
-use Rattle.rules.proofs.Accepted.{Numbered, From11, from-11}
+use Rattle.rules.proofs.Accepted.{verdict-first, verdict-rest}
 use Rattle.sheet.specs.Check.{headChecks, lineVerdict}
-
--- the checks of a list have numbers above 0
-abbrev pub Positive : List Check → Type 0
-Positive [] = Unit
-Positive (c ∷ cs) = (0 < c .1) × Positive cs
-
-pub numbered-positive : {ns : List ℕ} → From11 ns → (cs : List Check) → Numbered ns cs → Positive cs
-numbered-positive f [] h = tt
-numbered-positive f (c ∷ cs) h = (omega (arith, from-11 f (h c (List·Memᴰ·head refl))), numbered-positive f cs (λ d m. h d (List·Memᴰ·tail m)))
-
--- a number from the first checks stands, and after 0 the later checks say
-pub verdict-first : (h t : List Check) → (verdict h ≡ 0 → ⊥) → verdict (h ++ t) ≡ verdict h
-unfolding verdict
-verdict-first [] t f = absurd (f refl)
-verdict-first (c ∷ cs) t f = elim (split (c .0)) [ inl e ↦ rw e (verdict-first cs t (λ z. f (rw e z))) | inr e ↦ rw e ]
-
-pub verdict-rest : (h t : List Check) → Positive h → verdict h ≡ 0 → verdict (h ++ t) ≡ verdict t
-unfolding verdict
-verdict-rest [] t p e = refl
-verdict-rest (c ∷ cs) t p e = elim (split (c .0)) [ inl d ↦ rw d (verdict-rest cs t (p .1) (rw d at e)) | inr d ↦ absurd (omega (arith, p .0, rw d at e)) ]
 
 -- the fit of a line, test by test
 module _ (n : ℕ) (l : Line) where

@@ -6,7 +6,7 @@ use native.Mathlib.Nat.{zero-mul, one-mul, zero-add, add-mul, mul-assoc, add-ass
 use native.Mathlib.Omega.{arith}
 use lib.ListN.{getD}
 use lib.Bits.{bitAnd, and-mask}
-use lib.Pow.{pow-pos, pow-add, high, low, shl-exact}
+use lib.Pow.{pow-add, high, low, shl-exact}
 use Rattle.rules.specs.Sheet.{Line, bitAt, word, field, lineAt}
 use Rattle.rules.proofs.Fields.{bitAt-lt, word-lt, byte-word}
 use Rattle.sheet.specs.Fields.{fourBytes}

@@ -3,3 +3,4 @@ pub mod Fields
 pub mod Check
 pub mod Answers
 pub mod Pen
+pub mod Writing

@@ -3,7 +3,7 @@ use Prim.Native.Nat.{ℕ, _+_, _*_, _^_, _≤_, _<_}
 use mathlib.Core.Path.{_≡_}
 use mathlib.Core.List.{List, _++_}
 use lib.ListN.{length, getD, drop}
-use Rattle.rules.specs.Sheet.{Line, word, packed}
+use Rattle.rules.specs.Sheet.{word, packed}
 use Rattle.sheet.specs.declared.pen.Pen.{Pen}
 
 -- the bits bs were put down from the start of the bytes that were old: the whole bytes of them lie there, and the pen holds the rest

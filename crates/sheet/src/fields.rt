@@ -87,3 +87,11 @@ pub fn counts(bytes: &[u8]) -> SheetCounts
         lines: field(bytes, 10, 12) as u16,
     }
 }
+
+// The length of a sheet of n vertices and m lines in bits.
+pub(crate) fn bit_length(n: usize, m: usize) -> usize
+    requires { ⌜ (n < 65536) × (m < 65536) ⌝ }
+    ensures { λ r. ⌜ r ≡ rules.bitLength n m ⌝ }
+{
+    22 + 6 * n + 20 * m
+}

@@ -3,3 +3,4 @@ pub mod check;
 pub mod fields;
 mod pen;
 pub mod reader;
+pub mod writer;

@@ -7,7 +7,7 @@ ghost use Rattle.rules.specs.Sheet.{bits};
 ghost use Rattle.sheet.specs.Pen.{Able, Added};
 
 // The next byte, the bits that wait for it, and their number.
-pub struct Pen {
+pub(crate) struct Pen {
     pub at: usize,
     pub held: u32,
     pub count: usize,
@@ -29,7 +29,7 @@ fn emit(bytes: &mut [u8], pen: Pen) -> Pen
 }
 
 // The lowest `width` bits of `value`, most significant first.
-pub fn put(bytes: &mut [u8], pen: Pen, value: u32, width: usize) -> Pen
+pub(crate) fn put(bytes: &mut [u8], pen: Pen, value: u32, width: usize) -> Pen
     requires { ⌜ (pen .count < 8) × (width ≤ 20) × (value < 2 ^ width) × Able width pen (now bytes) ⌝ }
     ensures { λ r. ⌜ (r .count < 8) × Added (bits width value) pen (now (bytes .entry)) r (now (bytes .exit)) ⌝ }
 {

@@ -1,59 +1,46 @@
+-- `sheet::pen::emit` meets its contract: the byte that goes out is the next eight bits, and the pen holds the rest. Assumes nothing.
+use Prim.Native.Nat.{_+_, _-_}
+use mathlib.Core.Path.{_≡_}
+use native.Mathlib.Omega.{arith}
+use borrow.Author.Needs.{needs}
+use lib.Pow.{pow-pos, shr-lt}
 use Rattle.sheet.proofs.Pens.{byte-out}
 use Rattle.sheet.proofs.Words.{ones, masked}
-use lib.Pow.{pow-pos, shr-lt}
-use native.Mathlib.Nat.{mod-lt}
-use native.Mathlib.Omega.{arith}
-use mathlib.Core.Path.{_≡_, sym}
-use Prim.Native.Nat.{_+_, _-_, _^_, _/_, _<_, _%_, _*_}
-use borrow.Author.Needs.{needs}
 use Rattle.sheet.proofs.pen.emit.Statement.{statement}
 use Rattle.sheet.proofs.pen.emit.Tie as tie
-use Rattle.sheet.proofs.pen.emit.Reads as reads
-use Rattle.sheet.proofs.pen.emit.Lts as lts
 
--- src/pen.rt:22:16
 sub-rest : tie.Need-sub-rest
 sub-rest c = search needs
 
--- src/pen.rt:23:30
 cast-bytes : tie.Need-cast-bytes
 cast-bytes c = search needs
 
--- src/pen.rt:23:18
 shr-bytes : tie.Need-shr-bytes
 shr-bytes c = search needs
 
--- src/pen.rt:23:17
 cast-bytes-2 : tie.Need-cast-bytes-2
 cast-bytes-2 c = let p = c .before .before .args .pen in
     let e : p .count ≡ 8 + (p .count - 8) = omega arith in
     record { fits = shr-lt {n = p .held} 8 (p .count - 8) (rw e at (c .before .before .pre .2 .low)) }
 
--- src/pen.rt:23:5
 slice-write-bytes : tie.Need-slice-write-bytes
 slice-write-bytes c = search needs
 
--- src/pen.rt:25:13
 add-t9 : tie.Need-add-t9
 add-t9 c = search needs
 
--- src/pen.rt:26:33
 cast-t5 : tie.Need-cast-t5
 cast-t5 c = search needs
 
--- src/pen.rt:26:28
 shl-t6 : tie.Need-shl-t6
 shl-t6 c = search needs
 
--- src/pen.rt:26:27
 sub-t10 : tie.Need-sub-t10
 sub-t10 c = let p = c .before .before .args .pen in omega (arith, ones 32 (p .count - 8) (omega arith), pow-pos (p .count - 8))
 
--- src/pen.rt:17:1
 same-length : tie.Need-same-length
 same-length c = search needs
 
--- src/pen.rt:17:1
 returns : tie.Need-returns
 returns c = let a = c .before .before .before .args in
     let rest = a .pen .count - 8 in

@@ -1,48 +1,37 @@
-use lib.ListN.{length-set}
+-- `sheet::reader::put_line` meets its contract: three stores, each within the list. Assumes nothing.
 use native.Mathlib.Omega.{arith}
 use borrow.Author.Needs.{needs}
+use lib.ListN.{length-set}
 use Rattle.sheet.proofs.reader.put_line.Statement.{statement}
 use Rattle.sheet.proofs.reader.put_line.Tie as tie
-use Rattle.sheet.proofs.reader.put_line.Reads as reads
-use Rattle.sheet.proofs.reader.put_line.Lts as lts
 
--- src/reader.rt:34:5
 mul-lines : tie.Need-mul-lines
 mul-lines c = search needs
 
--- src/reader.rt:34:5
 slice-write-lines : tie.Need-slice-write-lines
 slice-write-lines c = search needs
 
--- src/reader.rt:35:11
 add-lines : tie.Need-add-lines
 add-lines c = search needs
 
--- src/reader.rt:35:5
 mul-lines-2 : tie.Need-mul-lines-2
 mul-lines-2 c = search needs
 
--- src/reader.rt:35:5
 slice-write-lines-2 : tie.Need-slice-write-lines-2
 slice-write-lines-2 c = simp length-set (omega arith)
 
--- src/reader.rt:36:11
 add-lines-2 : tie.Need-add-lines-2
 add-lines-2 c = search needs
 
--- src/reader.rt:36:5
 mul-lines-3 : tie.Need-mul-lines-3
 mul-lines-3 c = search needs
 
--- src/reader.rt:36:5
 slice-write-lines-3 : tie.Need-slice-write-lines-3
 slice-write-lines-3 c = simp length-set (omega arith)
 
--- src/reader.rt:30:1
 same-length : tie.Need-same-length
 same-length c = search needs
 
--- src/reader.rt:30:1
 returns : tie.Need-returns
 returns c = search needs
 

@@ -1,19 +1,16 @@
-use Rattle.sheet.proofs.Stores.{number-put, over-at}
-use Rattle.sheet.proofs.Stores.{store-next, map-next}
-use Rattle.rules.specs.Sheet.{field, kindsHeld}
+-- `sheet::reader::read_kinds` meets its contract. The invariant: the first i kinds are written, and the rest is as it was. Assumes nothing.
+use Prim.Native.Nat.{ℕ, _≤_, _-_, _+_, _*_}
+use mathlib.Core.List.{map, _++_}
+use mathlib.Core.Path.{_≡_, refl, _∙_, ap}
+use native.Mathlib.Omega.{arith}
+use borrow.Author.Needs.{needs}
+use lib.ListN.{length, drop, length-set}
 use Rattle.laws.proofs.Lists.{length-map-upto}
 use Rattle.laws.specs.Lists.{upto}
-use lib.ListN.{length, drop, set, length-set}
-use borrow.Author.Needs.{needs}
-use native.Mathlib.Omega.{arith}
-use mathlib.Core.List.{map, _++_}
-use mathlib.Core.Path.{_≡_, refl, sym, _∙_, ap}
-use Prim.Native.Nat.{ℕ, _≤_, _<_, _-_, _+_, _*_}
+use Rattle.rules.specs.Sheet.{field, kindsHeld}
+use Rattle.sheet.proofs.Stores.{number-put, over-at}
 use Rattle.sheet.proofs.reader.read_kinds.Statement.{statement}
 use Rattle.sheet.proofs.reader.read_kinds.Tie as tie
-use Rattle.sheet.proofs.reader.read_kinds.Reads as reads
-use Rattle.sheet.proofs.reader.read_kinds.Lts as lts
-use Rattle.sheet.proofs.fields.kind_at.Reads as kind-at-reads
 
 abbrev Inv-loop : tie.InvT-loop
 Inv-loop sheet n kinds₀ i₀ kinds i = (i ≤ n) × (length kinds ≡ length kinds₀) × (kinds ≡ map (λ k. field sheet (22 + 6 * k) 6) (upto i 0) ++ drop i kinds₀)
@@ -21,42 +18,33 @@ Inv-loop sheet n kinds₀ i₀ kinds i = (i ≤ n) × (length kinds ≡ length k
 abbrev μ-loop : tie.MeasureT-loop
 μ-loop sheet n kinds₀ i₀ kinds i = n - i
 
--- src/reader.rt:23:5
 loop-holds : tie.Need-loop-holds Inv-loop μ-loop
 loop-holds c = (search needs, refl, refl)
 
--- src/reader.rt:24:20
 kind-at-requires : tie.Need-kind-at-requires Inv-loop μ-loop
 kind-at-requires c κs = search needs
 
--- src/reader.rt:24:9
 mul-kinds : tie.Need-mul-kinds Inv-loop μ-loop
 mul-kinds c = search needs
 
--- src/reader.rt:24:9
 slice-write-kinds : tie.Need-slice-write-kinds Inv-loop μ-loop
 slice-write-kinds c = search needs
 
--- src/reader.rt:25:9
 add-i : tie.Need-add-i Inv-loop μ-loop
 add-i c = search needs
 
--- src/reader.rt:23:5
 loop-less : tie.Need-loop-less Inv-loop μ-loop
 loop-less c = search needs
 
--- src/reader.rt:23:5
 loop-again : tie.Need-loop-again Inv-loop μ-loop
 loop-again c = let a = c .before .before .before .before .before .args in
     let l = c .before .before .loop in
     let g : ℕ → ℕ = λ k. field (a .sheet .now) (22 + 6 * k) 6 in
     (omega arith, simp length-set (l .inv .1), number-put g (a .kinds .now) (l .kinds) (l .i) (c .kind-at .result) (c .kind-at .ensures) (omega arith) (l .inv .2))
 
--- src/reader.rt:18:1
 same-length : tie.Need-same-length Inv-loop μ-loop
 same-length c = search needs
 
--- src/reader.rt:18:1
 returns : tie.Need-returns Inv-loop μ-loop
 unfolding kindsHeld
 returns c = let a = c .before .before .before .before .args in
