@@ -1,6 +1,8 @@
 //! Runs the comparisons: evidence [plain|library] [seed [random [damaged [pairs]]]]. Prints the seed
 //! and the counts of cases by answer number; the exit status is 1 on any disagreement.
 
+#![allow(unknown_lints, unexpected_cfgs)]
+
 use outside::calls::Calls;
 use outside::evidence::Evidence;
 use outside::plain::Plain;
