@@ -29,7 +29,7 @@ pub struct Case<'a> {
 pub struct Evidence<'a> {
     calls: &'a dyn Calls,
     random: Random,
-    pub faults: u64,
+    pub faults: BTreeMap<&'static str, u64>,
     pub counts: BTreeMap<(&'static str, u16), u64>,
     pub notes: BTreeMap<&'static str, u64>,
 }
@@ -40,12 +40,13 @@ fn hex(bytes: &[u8]) -> String {
 
 impl<'a> Evidence<'a> {
     pub fn new(calls: &'a dyn Calls, seed: u64) -> Evidence<'a> {
-        Evidence { calls, random: Random::new(seed), faults: 0, counts: BTreeMap::new(), notes: BTreeMap::new() }
+        Evidence { calls, random: Random::new(seed), faults: BTreeMap::new(), counts: BTreeMap::new(), notes: BTreeMap::new() }
     }
 
-    fn fault(&mut self, what: &str, about: &str) {
-        self.faults += 1;
-        if self.faults <= 20 {
+    fn fault(&mut self, what: &'static str, about: &str) {
+        let count = self.faults.entry(what).or_insert(0);
+        *count += 1;
+        if *count <= 5 {
             println!("DISAGREEMENT: {what}\n  {about}");
         }
     }

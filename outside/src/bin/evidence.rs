@@ -75,6 +75,9 @@ fn main() {
     evidence.round_trips(number(4, 2_000));
     lap("two calls and round trips");
     report(&evidence);
-    println!("{} disagreements", evidence.faults);
-    std::process::exit(if evidence.faults == 0 { 0 } else { 1 });
+    for (what, count) in &evidence.faults {
+        println!("disagreements of {what}: {count}");
+    }
+    println!("{} disagreements", evidence.faults.values().sum::<u64>());
+    std::process::exit(if evidence.faults.is_empty() { 0 } else { 1 });
 }
