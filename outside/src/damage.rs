@@ -57,9 +57,9 @@ pub fn sheet(random: &mut Random, graph: &Graph) -> Vec<u8> {
         4 => counts(random, graph),
         5 => {
             let length = random.below(40);
-            random.dirty_bytes(length)
+            random.bytes(length)
         }
-        6 => random.dirty_bytes(3).into_iter().take(random.below(4)).collect(),
+        6 => random.bytes(3).into_iter().take(random.below(4)).collect(),
         more => {
             let mut bytes = encode(graph);
             for _ in 0..more - 6 {

@@ -29,6 +29,8 @@ pub struct Case<'a> {
 pub struct Evidence<'a> {
     calls: &'a dyn Calls,
     random: Random,
+    /// Random numbers from which dirty lent memory is copied.
+    dirt: Vec<u16>,
     pub faults: BTreeMap<&'static str, u64>,
     pub counts: BTreeMap<(&'static str, u16), u64>,
     pub notes: BTreeMap<&'static str, u64>,
@@ -40,7 +42,19 @@ fn hex(bytes: &[u8]) -> String {
 
 impl<'a> Evidence<'a> {
     pub fn new(calls: &'a dyn Calls, seed: u64) -> Evidence<'a> {
-        Evidence { calls, random: Random::new(seed), faults: BTreeMap::new(), counts: BTreeMap::new(), notes: BTreeMap::new() }
+        let mut random = Random::new(seed);
+        let dirt = (0..1 << 18).map(|_| random.next() as u16).collect();
+        Evidence { calls, random, dirt, faults: BTreeMap::new(), counts: BTreeMap::new(), notes: BTreeMap::new() }
+    }
+
+    /// Dirty 16-bit numbers, as a caller may lend them.
+    fn dirt(&mut self, length: usize) -> Vec<u16> {
+        let from = self.random.below(self.dirt.len() / 2);
+        self.dirt[from..].iter().chain(&self.dirt).take(length).copied().collect()
+    }
+
+    fn dirty_bytes(&mut self, length: usize) -> Vec<u8> {
+        self.dirt(length).iter().map(|&number| number as u8).collect()
     }
 
     fn fault(&mut self, what: &'static str, about: &str) {
@@ -61,8 +75,8 @@ impl<'a> Evidence<'a> {
 
     /// One call beside the model's: the answer, every list number, all the memory, and the guards.
     fn compare(&mut self, part: &'static str, case: &Case) -> (Found, Vec<u16>) {
-        let memory = self.random.dirt(case.memory + 2 * GUARD);
-        let list = self.random.dirt(case.list + 2 * GUARD);
+        let memory = self.dirt(case.memory + 2 * GUARD);
+        let list = self.dirt(case.list + 2 * GUARD);
         let run = |calls: &dyn Calls| {
             let (mut m, mut l) = (memory.clone(), list.clone());
             let lent = (GUARD..GUARD + case.memory, GUARD..GUARD + case.list);
@@ -170,7 +184,7 @@ impl<'a> Evidence<'a> {
         };
         let kinds = near_length(&mut self.random, n);
         let lines = near_length(&mut self.random, m);
-        let lent = (self.random.dirt(kinds + 2 * GUARD), self.random.dirt(lines + 2 * GUARD));
+        let lent = (self.dirt(kinds + 2 * GUARD), self.dirt(lines + 2 * GUARD));
         let run = |calls: &dyn Calls| {
             let (mut k, mut l) = lent.clone();
             let read = calls.read(sheet, &mut k[GUARD..GUARD + kinds], &mut l[GUARD..GUARD + lines]);
@@ -187,7 +201,7 @@ impl<'a> Evidence<'a> {
     fn writer_case(&mut self, kinds: &[u16], lines: &[u16]) {
         let length = (22 + 6 * kinds.len() + 20 * (lines.len() / 3) + 7) / 8;
         let room = near_length(&mut self.random, length);
-        let lent = self.random.dirty_bytes(room + 2 * GUARD);
+        let lent = self.dirty_bytes(room + 2 * GUARD);
         let run = |calls: &dyn Calls| {
             let mut bytes = lent.clone();
             let written = calls.write(kinds, lines, &mut bytes[GUARD..GUARD + room]);
@@ -265,7 +279,7 @@ impl<'a> Evidence<'a> {
     }
 
     fn rows(&mut self, figure: &[u8], patch: &[u8], room: usize, n: usize, allowance: u32) -> (Found, Vec<u16>) {
-        let (mut memory, mut list) = (self.random.dirt(MEMORY), self.random.dirt(room * n));
+        let (mut memory, mut list) = (self.dirt(MEMORY), self.dirt(room * n));
         let found = self.calls.find(figure, patch, &mut memory, &mut list, allowance);
         list.truncate(found.rows * n);
         (found, list)

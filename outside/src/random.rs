@@ -47,15 +47,7 @@ impl Random {
         all
     }
 
-    /// Dirty 16-bit numbers, as a caller may lend them.
-    pub fn dirt(&mut self, length: usize) -> Vec<u16> {
-        let start = self.next();
-        let step = self.next() | 1;
-        (0..length as u64).map(|i| (start.wrapping_add(i.wrapping_mul(step)) >> 37) as u16).collect()
-    }
-
-    /// Dirty bytes.
-    pub fn dirty_bytes(&mut self, length: usize) -> Vec<u8> {
+    pub fn bytes(&mut self, length: usize) -> Vec<u8> {
         (0..length).map(|_| self.next() as u8).collect()
     }
 }

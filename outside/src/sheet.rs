@@ -29,16 +29,6 @@ impl Graph {
         all
     }
 
-    /// Which pairs of vertices are joined, both ways round.
-    pub fn joined(&self) -> Vec<Vec<bool>> {
-        let mut all = vec![vec![false; self.n()]; self.n()];
-        for &(_, a, b) in &self.lines {
-            all[a as usize][b as usize] = true;
-            all[b as usize][a as usize] = true;
-        }
-        all
-    }
-
     /// The line list of the reader and the writer: three numbers a line.
     pub fn line_list(&self) -> Vec<u16> {
         self.lines.iter().flat_map(|&(t, a, b)| [t, a, b]).collect()
