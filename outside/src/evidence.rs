@@ -12,10 +12,10 @@ use std::collections::BTreeMap;
 const GUARD: usize = 16;
 
 /// The most tries a random case makes, so that the model stays quick.
-const CAP: u32 = 3_000;
+const CAP: u32 = 2_000;
 
 /// The most looks the matcher takes at one case before another is drawn.
-const STEPS: u64 = 300_000;
+const STEPS: u64 = 200_000;
 
 /// A call of the search as a case has it.
 pub struct Case<'a> {
@@ -49,8 +49,13 @@ impl<'a> Evidence<'a> {
 
     /// Dirty 16-bit numbers, as a caller may lend them.
     fn dirt(&mut self, length: usize) -> Vec<u16> {
-        let from = self.random.below(self.dirt.len() / 2);
-        self.dirt[from..].iter().chain(&self.dirt).take(length).copied().collect()
+        let mut made = Vec::with_capacity(length);
+        while made.len() < length {
+            let from = self.random.below(self.dirt.len() / 2);
+            let end = self.dirt.len().min(from + length - made.len());
+            made.extend_from_slice(&self.dirt[from..end]);
+        }
+        made
     }
 
     fn dirty_bytes(&mut self, length: usize) -> Vec<u8> {
@@ -438,10 +443,10 @@ fn small_patch(random: &mut Random) -> Graph {
 /// A figure and a patch of one of twenty classes, from tiny to the limits of the table.
 pub fn draw(random: &mut Random, class: usize) -> (Graph, Graph) {
     match class {
-        0..=7 => tiny(random),
-        8..=12 => medium(random),
-        13..=14 => racks(random),
-        15..=17 => large(random),
+        0..=9 => tiny(random),
+        10..=14 => medium(random),
+        15..=16 => racks(random),
+        17 => large(random),
         18 => limits(random),
         _ => grids(random),
     }
