@@ -443,7 +443,8 @@ fn small_patch(random: &mut Random) -> Graph {
 /// A figure and a patch of one of twenty classes, from tiny to the limits of the table.
 pub fn draw(random: &mut Random, class: usize) -> (Graph, Graph) {
     match class {
-        0..=9 => tiny(random),
+        0..=5 => tiny(random),
+        6..=9 => lifted(random),
         10..=14 => medium(random),
         15..=16 => racks(random),
         17 => large(random),
@@ -461,6 +462,18 @@ fn tiny(random: &mut Random) -> (Graph, Graph) {
     let n = random.between(1, 10);
     let m = random.below(21);
     (figure, graphs::plain(random, n, m, &pool))
+}
+
+fn lifted(random: &mut Random) -> (Graph, Graph) {
+    let n = random.between(3, 9);
+    let size = if random.chance(60) { 60 } else { random.between(2, n) };
+    let pool = graphs::pool(random, size);
+    let m = n - 1 + random.below(4);
+    let figure = graphs::connected(random, n, m, &pool);
+    let copies = random.between(2, 5);
+    let percent = random.between(25, 70);
+    let patch = graphs::lifted(random, &figure, copies, percent);
+    (figure, patch)
 }
 
 fn medium(random: &mut Random) -> (Graph, Graph) {
