@@ -1,0 +1,2 @@
+-- The laws, each file after those that it uses.
+pub mod Checked
