@@ -6,3 +6,4 @@ pub mod Rooms
 pub mod Passes
 pub mod Sheets
 pub mod Turns
+pub mod Held
