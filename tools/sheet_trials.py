@@ -114,7 +114,7 @@ def following(seed):
 
 
 def below(seed, limit):
-    return seed // 32768 % limit if limit else 0
+    return seed // 32768 % limit
 
 
 class Part:
@@ -218,7 +218,7 @@ def drawn():
 
 
 def random():
-    part, seed = Part(3), 12
+    part, seed = Part(2), 11
     for _ in range(3000):
         s = following(seed)
         t = following(s)
@@ -232,7 +232,7 @@ def random():
 
 
 def noise():
-    part, seed = Part(4), 13
+    part, seed = Part(2), 11
     for _ in range(2000):
         s = following(seed)
         sheet, seed = draw_list(64, s, 256)
@@ -241,7 +241,7 @@ def noise():
 
 
 def written():
-    part, seed = Part(5), 14
+    part, seed = Part(2), 11
     for _ in range(4000):
         n = below(seed, 21)
         kinds, seed = draw_list(20, following(seed), 64)

@@ -54,6 +54,10 @@ pub fn print_part(tally: &[u32], d: u64) {
         print_count(tally, i);
         i += 1;
     }
+    end_line();
+}
+
+fn end_line() {
     io::write_all(1, b"\n");
 }
 

@@ -1,4 +1,6 @@
 // Numbers that look random, and lists and bytes of them.
+ghost use Prim.Native.Nat.{_+_, _<_};
+ghost use lib.ListN.{length};
 
 // A place in the sequence, beside what it is handed on with: a digest, or a count.
 pub struct Drawn {
@@ -22,11 +24,11 @@ pub fn next(seed: u32) -> u32 {
     (((seed as u64) * 1103515245 + 12345) % 2147483648) as u32
 }
 
-// A number below `limit` out of the upper bits, 0 where the limit is 0.
-pub fn below(seed: u32, limit: u16) -> u16 {
-    if limit == 0 {
-        return 0;
-    }
+// A number below `limit` out of the upper bits.
+pub fn below(seed: u32, limit: u16) -> u16
+    requires { ⌜ 0 < limit ⌝ }
+    ensures { λ r. ⌜ r < limit ⌝ }
+{
     (seed / 32768 % (limit as u32)) as u16
 }
 
@@ -57,6 +59,14 @@ fn next_ends(e: Ends, n: u16, jump: u16) -> Ends {
     }
 }
 
+fn set_line(lines: &mut [u16], k: usize, sort: u16, e: Ends)
+    requires { ⌜ k + 2 < length (now lines) ⌝ }
+{
+    lines[k] = sort;
+    lines[k + 1] = e.first;
+    lines[k + 2] = e.second;
+}
+
 // Lines among n vertices, ascending, as many as there are or as the list holds.
 pub fn draw_lines(lines: &mut [u16], n: u16, seed: u32) -> Counted {
     let mut s = seed;
@@ -69,15 +79,19 @@ pub fn draw_lines(lines: &mut [u16], n: u16, seed: u32) -> Counted {
         s = next(s);
         e = next_ends(e, n, below(s, 3));
         if n <= e.second {
-            return Counted { seed: s, count: 3 * k };
+            return Counted {
+                seed: s,
+                count: 3 * k,
+            };
         }
         s = next(s);
-        lines[3 * k] = below(s, 3);
-        lines[3 * k + 1] = e.first;
-        lines[3 * k + 2] = e.second;
+        set_line(lines, 3 * k, below(s, 3), e);
         k += 1;
     }
-    Counted { seed: s, count: 3 * k }
+    Counted {
+        seed: s,
+        count: 3 * k,
+    }
 }
 
 pub fn draw_bytes(bytes: &mut [u8], seed: u32) -> u32 {
