@@ -1,0 +1,14 @@
+-- What the exported calls return beside what was lent, as the rules have it. Assumes nothing: these are definitions.
+use Prim.Native.Nat.{ℕ}
+use mathlib.Core.List.{List}
+use Rattle.rules.specs.Calls as calls
+use Rattle.exports.specs.declared.Read.{Read}
+use Rattle.exports.specs.declared.Written.{Written}
+
+-- what the reader returned, with the two lists afterwards
+abbrev pub asRead : Read → (kindList lineList : List ℕ) → calls.Read
+asRead r kindList lineList = record { number = r .number; vertices = r .vertices; lines = r .lines; kindList = kindList; lineList = lineList }
+
+-- what the writer returned, with the bytes afterwards
+abbrev pub asWritten : Written → List ℕ → calls.Written
+asWritten r bytes = record { number = r .number; count = r .count; bytes = bytes }

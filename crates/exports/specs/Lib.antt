@@ -1,0 +1,2 @@
+-- What the exported functions cite beside the rules.
+pub mod Answers

@@ -1,0 +1,45 @@
+// The library's calls for C and for Rust, under their plain names. Each is the proved function of
+// the crate below it, with its answer laid out as in C.
+ghost use mathlib.Core.Path.{_≡_};
+ghost use Rattle.rules.specs.Calls.{reader, writer};
+ghost use Rattle.exports.specs.Answers.{asRead, asWritten};
+use sheet::reader::read;
+use sheet::writer::write;
+
+// What the reader returns: its number and the counts n and m.
+#[repr(C)]
+pub struct Read {
+    pub number: u16,
+    pub vertices: u16,
+    pub lines: u16,
+}
+
+// What the writer returns: its number and the count of bytes.
+#[repr(C)]
+pub struct Written {
+    pub number: u16,
+    pub count: usize,
+}
+
+#[no_mangle]
+pub extern "C" fn gelquorist_read(sheet: &[u8], kinds: &mut [u16], lines: &mut [u16]) -> Read
+    ensures { λ r. ⌜ asRead r (now (kinds .exit)) (now (lines .exit)) ≡ reader (now (sheet .entry)) (now (kinds .entry)) (now (lines .entry)) ⌝ }
+{
+    let answer = read(sheet, kinds, lines);
+    Read {
+        number: answer.number,
+        vertices: answer.vertices,
+        lines: answer.lines,
+    }
+}
+
+#[no_mangle]
+pub extern "C" fn gelquorist_write(kinds: &[u16], lines: &[u16], bytes: &mut [u8]) -> Written
+    ensures { λ r. ⌜ asWritten r (now (bytes .exit)) ≡ writer (now (kinds .entry)) (now (lines .entry)) (now (bytes .entry)) ⌝ }
+{
+    let answer = write(kinds, lines, bytes);
+    Written {
+        number: answer.number,
+        count: answer.count,
+    }
+}

@@ -1,0 +1,204 @@
+//! Speed: whole calls, sheets in memory to answer, memory zeroed; medians.
+//! bench cases FILE: writes the cases for the peers. bench times: a line for each case and each
+//! implementation of this build. bench sizes: cost against lines and against tries.
+
+#![allow(unknown_lints, unexpected_cfgs)]
+
+use outside::calls::{Calls, Found, MEMORY};
+use outside::evidence::graph;
+use outside::graphs;
+use outside::hold::hold;
+use outside::plain::Plain;
+use outside::random::Random;
+use outside::sheet::{encode, Graph};
+use std::fmt::Write;
+use std::time::Instant;
+
+#[cfg(library)]
+#[path = "../library.rs"]
+mod library;
+
+#[cfg(library)]
+fn implementations() -> Vec<Box<dyn Calls>> {
+    vec![Box::new(library::Library), Box::new(Plain)]
+}
+
+#[cfg(not(library))]
+fn implementations() -> Vec<Box<dyn Calls>> {
+    vec![Box::new(Plain)]
+}
+
+const SEED: u64 = 7;
+const LIST: usize = 1 << 20;
+
+struct Case {
+    group: &'static str,
+    figure: Graph,
+    patch: Graph,
+}
+
+/// Cases whose search is complete with tries in the given range, drawn until there are enough.
+fn collect(to: &mut Vec<Case>, group: &'static str, count: usize, tries: (u32, u32), mut draw: impl FnMut() -> (Graph, Graph)) {
+    let mut left = count;
+    let (mut memory, mut list) = (vec![0; MEMORY], vec![0; LIST]);
+    while left > 0 {
+        let (figure, patch) = draw();
+        let found = Plain.find(&encode(&figure), &encode(&patch), &mut memory, &mut list, tries.1);
+        if found.number == 0 && found.tries >= tries.0 {
+            to.push(Case { group, figure, patch });
+            left -= 1;
+        }
+    }
+}
+
+fn tiny(to: &mut Vec<Case>, random: &mut Random) {
+    let mut fixed = |figure, patch| to.push(Case { group: "tiny", figure, patch });
+    fixed(graph(&[1, 2], &[(0, 1)]), graph(&[1, 2, 2], &[(0, 1), (0, 2)]));
+    fixed(graph(&[2, 2], &[(0, 1)]), graph(&[2, 2], &[(0, 1)]));
+    fixed(graph(&[3, 3, 3], &[(0, 1), (0, 2), (1, 2)]), graph(&[3, 3, 3, 3], &[(0, 1), (0, 3), (1, 2), (2, 3)]));
+    fixed(graph(&[1, 2, 2, 4], &[(0, 1), (0, 2), (2, 3)]), graph(&[1, 2, 2, 4], &[(0, 1), (0, 2), (1, 3)]));
+    collect(to, "tiny", 12, (1, 100), || {
+        let n = random.between(4, 12);
+        let patch = graphs::plain(random, n, 2 * n, &[1, 2, 3]);
+        (graphs::part(random, &patch, 4, 80), patch)
+    });
+}
+
+fn racks(to: &mut Vec<Case>, random: &mut Random) {
+    collect(to, "rack", 16, (1, 2_000), || {
+        let modules = random.between(12, 64);
+        let patch = graphs::rack(random, modules, 2 * modules, modules / 2);
+        let n = random.between(4, 14);
+        (graphs::part(random, &patch, n, 100), patch)
+    });
+}
+
+fn randoms(to: &mut Vec<Case>, random: &mut Random) {
+    collect(to, "random", 16, (10, 20_000), || {
+        let n = random.between(64, 512);
+        let size = random.between(4, 16);
+        let pool = graphs::pool(random, size);
+        let m = random.between(2 * n, 4 * n);
+        let patch = graphs::plain(random, n, m, &pool);
+        let n = random.between(5, 16);
+        (graphs::part(random, &patch, n, 70), patch)
+    });
+}
+
+fn hard(to: &mut Vec<Case>, random: &mut Random) {
+    collect(to, "hard", 12, (50_000, 2_000_000), || match random.below(3) {
+        0 => {
+            let n = random.between(24, 128);
+            let m = random.between(3 * n, 6 * n);
+            let patch = graphs::plain(random, n, m, &[1, 2]);
+            let n = random.between(7, 14);
+            (graphs::part(random, &patch, n, 90), patch)
+        }
+        1 => {
+            let width = random.between(6, 20);
+            let patch = graphs::grid(random, width, 12, &[1]);
+            let n = random.between(7, 12);
+            (graphs::part(random, &patch, n, 100), patch)
+        }
+        _ => {
+            let n = random.between(200, 512);
+            let patch = graphs::plain(random, n, 2_048, &[1, 2, 3]);
+            let n = random.between(6, 10);
+            let m = n + random.below(4);
+            (graphs::connected(random, n, m, &[1, 2, 3]), patch)
+        }
+    });
+}
+
+fn cases() -> Vec<Case> {
+    let mut all = Vec::new();
+    let mut random = Random::new(SEED);
+    tiny(&mut all, &mut random);
+    racks(&mut all, &mut random);
+    randoms(&mut all, &mut random);
+    hard(&mut all, &mut random);
+    all
+}
+
+/// One case as text: counts, kinds and lines of the figure, then of the patch.
+fn text(case: &Case, index: usize) -> String {
+    let mut out = format!("{} {index}\n", case.group);
+    for g in [&case.figure, &case.patch] {
+        writeln!(out, "{} {}", g.n(), g.lines.len()).unwrap();
+        let kinds: Vec<String> = g.kinds.iter().map(|k| k.to_string()).collect();
+        writeln!(out, "{}", kinds.join(" ")).unwrap();
+        let ends: Vec<String> = g.lines.iter().map(|&(_, a, b)| format!("{a} {b}")).collect();
+        writeln!(out, "{}", ends.join(" ")).unwrap();
+    }
+    out
+}
+
+/// The median time of one call in nanoseconds, and its answer.
+fn measure(calls: &dyn Calls, figure: &[u8], patch: &[u8], list: usize, allowance: u32) -> (f64, Found) {
+    let (mut memory, mut list) = (vec![0; MEMORY], vec![0; list]);
+    let mut call = || hold(calls.find(hold(figure), hold(patch), &mut memory, &mut list, allowance));
+    let found = call();
+    let start = Instant::now();
+    call();
+    let once = start.elapsed().as_nanos().max(1);
+    let turns = (100_000 / once).clamp(1, 200) as u32;
+    let batches = if once > 20_000_000 { 5 } else { 31 };
+    let mut times: Vec<f64> = (0..batches)
+        .map(|_| {
+            let start = Instant::now();
+            for _ in 0..turns {
+                call();
+            }
+            start.elapsed().as_nanos() as f64 / turns as f64
+        })
+        .collect();
+    times.sort_by(|a, b| a.partial_cmp(b).unwrap());
+    (times[times.len() / 2], found)
+}
+
+fn times() {
+    for (index, case) in cases().iter().enumerate() {
+        let (f, p) = (encode(&case.figure), encode(&case.patch));
+        for calls in implementations() {
+            let (ns, found) = measure(&*calls, &f, &p, LIST, u32::MAX);
+            println!("{} {index} {} {ns:.0} {} {}", case.group, calls.name(), found.rows, found.tries);
+        }
+    }
+}
+
+/// Cost against lines on easy calls, and against tries on one hard graph.
+fn sizes() {
+    let mut random = Random::new(SEED);
+    let pool = graphs::pool(&mut random, 40);
+    for m in (0..=2_048).step_by(128) {
+        let patch = graphs::plain(&mut random, 512, m, &pool);
+        let figure = graph(&[patch.kinds[0], patch.kinds[1], patch.kinds[2]], &[(0, 1), (1, 2)]);
+        size("lines", m, &figure, &patch, u32::MAX);
+    }
+    let patch = graphs::plain(&mut random, 256, 2_048, &[1, 2]);
+    let figure = graph(&[1, 2, 1, 2, 1, 2, 1], &[(0, 1), (0, 6), (1, 2), (2, 3), (3, 4), (4, 5), (5, 6)]);
+    for power in 0..=20 {
+        size("tries", 1 << power, &figure, &patch, 1 << power);
+    }
+}
+
+fn size(what: &str, value: usize, figure: &Graph, patch: &Graph, allowance: u32) {
+    let (f, p) = (encode(figure), encode(patch));
+    for calls in implementations() {
+        let (ns, found) = measure(&*calls, &f, &p, LIST, allowance);
+        println!("{what} {value} {} {ns:.0} {} {}", calls.name(), found.rows, found.tries);
+    }
+}
+
+fn main() {
+    let arguments: Vec<String> = std::env::args().skip(1).collect();
+    match arguments.first().map(|s| s.as_str()) {
+        Some("cases") => {
+            let all: String = cases().iter().enumerate().map(|(i, case)| text(case, i)).collect();
+            std::fs::write(&arguments[1], all).unwrap();
+        }
+        Some("times") => times(),
+        Some("sizes") => sizes(),
+        _ => panic!("bench cases FILE, bench times or bench sizes"),
+    }
+}

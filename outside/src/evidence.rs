@@ -1,0 +1,531 @@
+//! The comparisons. Each part draws cases from a printed seed, asks one implementation and the
+//! independent ones, and counts every disagreement; nothing is taken on trust from the one asked.
+
+use crate::calls::{Calls, Found, MEMORY};
+use crate::model::{self, Model};
+use crate::random::Random;
+use crate::sheet::{encode, Graph};
+use crate::{check, damage, graphs, matcher};
+use std::collections::BTreeMap;
+
+/// Numbers on either side of what is lent, which no call may touch.
+const GUARD: usize = 16;
+
+/// The most tries a random case makes, so that the model stays quick.
+const CAP: u32 = 2_000;
+
+/// The most looks the matcher takes at one case before another is drawn.
+const STEPS: u64 = 200_000;
+
+/// A call of the search as a case has it.
+pub struct Case<'a> {
+    pub figure: &'a [u8],
+    pub patch: &'a [u8],
+    pub memory: usize,
+    pub list: usize,
+    pub allowance: u32,
+}
+
+pub struct Evidence<'a> {
+    calls: &'a dyn Calls,
+    random: Random,
+    /// Random numbers from which dirty lent memory is copied.
+    dirt: Vec<u16>,
+    pub faults: BTreeMap<&'static str, u64>,
+    pub counts: BTreeMap<(&'static str, u16), u64>,
+    pub notes: BTreeMap<&'static str, u64>,
+}
+
+fn hex(bytes: &[u8]) -> String {
+    bytes.iter().map(|b| format!("{b:02x}")).collect()
+}
+
+impl<'a> Evidence<'a> {
+    pub fn new(calls: &'a dyn Calls, seed: u64) -> Evidence<'a> {
+        let mut random = Random::new(seed);
+        let dirt = (0..1 << 18).map(|_| random.next() as u16).collect();
+        Evidence { calls, random, dirt, faults: BTreeMap::new(), counts: BTreeMap::new(), notes: BTreeMap::new() }
+    }
+
+    /// Dirty 16-bit numbers, as a caller may lend them.
+    fn dirt(&mut self, length: usize) -> Vec<u16> {
+        let mut made = Vec::with_capacity(length);
+        while made.len() < length {
+            let from = self.random.below(self.dirt.len() / 2);
+            let end = self.dirt.len().min(from + length - made.len());
+            made.extend_from_slice(&self.dirt[from..end]);
+        }
+        made
+    }
+
+    fn dirty_bytes(&mut self, length: usize) -> Vec<u8> {
+        self.dirt(length).iter().map(|&number| number as u8).collect()
+    }
+
+    fn fault(&mut self, what: &'static str, about: &str) {
+        let count = self.faults.entry(what).or_insert(0);
+        *count += 1;
+        if *count <= 5 {
+            println!("DISAGREEMENT: {what}\n  {about}");
+        }
+    }
+
+    fn note(&mut self, what: &'static str, by: u64) {
+        *self.notes.entry(what).or_insert(0) += by;
+    }
+
+    fn count(&mut self, part: &'static str, number: u16) {
+        *self.counts.entry((part, number)).or_insert(0) += 1;
+    }
+
+    /// One call beside the model's: the answer, every list number, all the memory, and the guards.
+    fn compare(&mut self, part: &'static str, case: &Case) -> (Found, Vec<u16>) {
+        let memory = self.dirt(case.memory + 2 * GUARD);
+        let list = self.dirt(case.list + 2 * GUARD);
+        let run = |calls: &dyn Calls| {
+            let (mut m, mut l) = (memory.clone(), list.clone());
+            let lent = (GUARD..GUARD + case.memory, GUARD..GUARD + case.list);
+            let found = calls.find(case.figure, case.patch, &mut m[lent.0], &mut l[lent.1], case.allowance);
+            (found, m, l)
+        };
+        let got = run(self.calls);
+        let expected = run(&Model);
+        self.count(part, expected.0.number);
+        if got != expected {
+            let about = format!(
+                "{part}: figure {} patch {} memory {} list {} allowance {}: got {:?}, expected {:?}; memory {}, list {}",
+                hex(case.figure), hex(case.patch), case.memory, case.list, case.allowance,
+                got.0, expected.0, got.1 == expected.1, got.2 == expected.2
+            );
+            self.fault("the search against the model", &about);
+        }
+        (got.0, got.2[GUARD..GUARD + case.list].to_vec())
+    }
+
+    /// Rows against all places of the matcher, in matching order.
+    fn against_places(&mut self, mut places: Vec<Vec<u16>>, order: &[usize], found: Found, list: &[u16], room: usize) {
+        places.sort_by_key(|row| order.iter().map(|&u| row[u]).collect::<Vec<u16>>());
+        let n = order.len();
+        let rows: Vec<Vec<u16>> = list.chunks(n).take(found.rows).map(|row| row.to_vec()).collect();
+        let right = match found.number {
+            0 => rows == places,
+            1 => found.rows == room && places.len() > room && rows[..] == places[..room],
+            2 => rows.len() <= places.len() && rows[..] == places[..rows.len()],
+            _ => false,
+        };
+        self.note("places by the matcher", places.len() as u64);
+        if !right {
+            let about = format!("{found:?} room {room}: rows {rows:?} of places {places:?} in order {order:?}");
+            self.fault("the rows against the matcher", &about);
+        }
+    }
+
+    /// One random case: the matcher, the model and the implementation asked. False where the matcher
+    /// took too long; the model is compared with all the same.
+    fn random_case(&mut self, class: usize) -> bool {
+        let (figure, patch) = draw(&mut self.random, class);
+        let places = matcher::places(&figure, &patch, STEPS);
+        let plan = model::plan(&figure, &patch);
+        let base = model::answer(&plan, usize::MAX, CAP);
+        let room = near(&mut self.random, base.1.len());
+        let allowance = if base.0 == 0 && self.random.chance(30) { u32::MAX } else { (near(&mut self.random, base.2 as usize) as u32).min(CAP) };
+        let list = room * figure.n() + self.random.below(figure.n());
+        let memory = *self.random.pick(&[MEMORY, MEMORY, MEMORY + 1, MEMORY + 77]);
+        let (f, p) = (encode(&figure), encode(&patch));
+        let part = if places.is_some() { "random" } else { "random, model alone" };
+        let (found, list) = self.compare(part, &Case { figure: &f, patch: &p, memory, list, allowance });
+        self.most("largest patch", patch.n() as u64);
+        self.most("most patch lines", patch.lines.len() as u64);
+        self.most("largest figure", figure.n() as u64);
+        self.most("most figure lines", figure.lines.len() as u64);
+        match places {
+            Some(places) => self.against_places(places, &plan.order, found, &list, room),
+            None => return false,
+        }
+        true
+    }
+
+    fn most(&mut self, what: &'static str, value: u64) {
+        let held = self.notes.entry(what).or_insert(0);
+        *held = value.max(*held);
+    }
+
+    /// `count` random cases that the matcher finishes.
+    pub fn random_cases(&mut self, count: u64) {
+        let mut done = 0;
+        let mut class = 0;
+        while done < count {
+            class = (class + 1) % 20;
+            if self.random_case(class) {
+                done += 1;
+            }
+        }
+    }
+
+    /// Damaged sheets as figure, as patch, as both, and for the reader.
+    fn damaged_case(&mut self) {
+        let figure = small_figure(&mut self.random);
+        let patch = small_patch(&mut self.random);
+        let good = (encode(&figure), encode(&patch));
+        let bad = (damage::sheet(&mut self.random, &figure), damage::sheet(&mut self.random, &patch));
+        let memory = *self.random.pick(&[MEMORY, MEMORY, MEMORY, MEMORY - 1, 0]);
+        let list = self.random.below(200);
+        let allowance = self.random.below(500) as u32;
+        match self.random.below(3) {
+            0 => self.compare("damaged figure", &Case { figure: &bad.0, patch: &good.1, memory, list, allowance }),
+            1 => self.compare("damaged patch", &Case { figure: &good.0, patch: &bad.1, memory, list, allowance }),
+            _ => self.compare("damaged both", &Case { figure: &bad.0, patch: &bad.1, memory, list, allowance }),
+        };
+        let read = if self.random.chance(70) { &bad.1 } else { &bad.0 };
+        self.reader_case(read);
+        let (kinds, lines) = damage::lists(&mut self.random, &patch);
+        self.writer_case(&kinds, &lines);
+    }
+
+    fn reader_case(&mut self, sheet: &[u8]) {
+        let (n, m) = match check::patch(sheet) {
+            Ok(graph) => (graph.n(), 3 * graph.lines.len()),
+            Err(_) => (self.random.below(40), self.random.below(99)),
+        };
+        let kinds = near_length(&mut self.random, n);
+        let lines = near_length(&mut self.random, m);
+        let lent = (self.dirt(kinds + 2 * GUARD), self.dirt(lines + 2 * GUARD));
+        let run = |calls: &dyn Calls| {
+            let (mut k, mut l) = lent.clone();
+            let read = calls.read(sheet, &mut k[GUARD..GUARD + kinds], &mut l[GUARD..GUARD + lines]);
+            (read, k, l)
+        };
+        let (got, expected) = (run(self.calls), run(&Model));
+        self.count("reader", expected.0.number);
+        if got != expected {
+            let about = format!("sheet {} lists {kinds} {lines}: got {:?}, expected {:?}", hex(sheet), got.0, expected.0);
+            self.fault("the reader", &about);
+        }
+    }
+
+    fn writer_case(&mut self, kinds: &[u16], lines: &[u16]) {
+        let length = (22 + 6 * kinds.len() + 20 * (lines.len() / 3) + 7) / 8;
+        let room = near_length(&mut self.random, length);
+        let lent = self.dirty_bytes(room + 2 * GUARD);
+        let run = |calls: &dyn Calls| {
+            let mut bytes = lent.clone();
+            let written = calls.write(kinds, lines, &mut bytes[GUARD..GUARD + room]);
+            (written, bytes)
+        };
+        let (got, expected) = (run(self.calls), run(&Model));
+        self.count("writer", expected.0.number);
+        if got != expected {
+            let about = format!("kinds {kinds:?} lines {lines:?} room {room}: got {:?}, expected {:?}", got.0, expected.0);
+            self.fault("the writer", &about);
+        }
+    }
+
+    /// `count` damaged sheets for the search, and as many for the reader and lists for the writer.
+    pub fn damaged_cases(&mut self, count: u64) {
+        for _ in 0..count {
+            self.damaged_case();
+        }
+    }
+
+    /// Reads what was written and writes what was read, through the implementation alone.
+    fn round_trip(&mut self, graph: &Graph) {
+        let (kinds, lines) = (graph.kinds.clone(), graph.line_list());
+        let mut bytes = vec![0xa5; 5_507];
+        let written = self.calls.write(&kinds, &lines, &mut bytes);
+        let (mut k, mut l) = (vec![9; 512], vec![9; 3 * 2_048]);
+        let read = self.calls.read(&bytes[..written.count], &mut k, &mut l);
+        let (n, m) = (read.vertices as usize, 3 * read.lines as usize);
+        let mut again = vec![0x5a; 5_507];
+        let back = self.calls.write(&k[..n], &l[..m], &mut again);
+        let whole = written.number == 0 && read.number == 0 && k[..n] == kinds[..] && l[..m] == lines[..];
+        let same = back == written && again[..back.count] == bytes[..written.count] && bytes[..written.count] == encode(graph)[..];
+        if !whole || !same {
+            self.fault("a round trip", &format!("{graph:?}: {written:?} {read:?} {back:?}"));
+        }
+    }
+
+    pub fn round_trips(&mut self, count: u64) {
+        for class in 0..count {
+            let (figure, patch) = draw(&mut self.random, class as usize % 20);
+            self.round_trip(&figure);
+            self.round_trip(&patch);
+            self.note("round trips", 2);
+        }
+    }
+
+    /// Demand 3 by pairs of calls, through the implementation alone.
+    pub fn two_calls(&mut self, count: u64) {
+        for class in 0..count {
+            let (figure, patch) = draw(&mut self.random, class as usize % 20);
+            let plan = model::plan(&figure, &patch);
+            let most = model::answer(&plan, usize::MAX, CAP);
+            let room = near(&mut self.random, most.1.len());
+            let allowance = near(&mut self.random, most.2 as usize) as u32;
+            let more = (room + self.random.below(4), allowance + self.random.below(50) as u32);
+            let (f, p) = (encode(&figure), encode(&patch));
+            let first = self.rows(&f, &p, room, figure.n(), allowance);
+            let second = self.rows(&f, &p, more.0, figure.n(), more.1);
+            let begins = first.1.len() <= second.1.len() && second.1[..first.1.len()] == first.1[..];
+            let complete_stays = first.0.number != 0 || second == first;
+            let reasons = [first.clone(), second.clone()].iter().zip([(room, allowance), more]).all(|(call, given)| match call.0.number {
+                0 => call.0.rows <= given.0 && call.0.tries <= given.1,
+                1 => call.0.rows == given.0 && call.0.tries <= given.1,
+                2 => call.0.tries == given.1 && call.0.rows <= given.0,
+                _ => false,
+            });
+            self.count("two calls, first", first.0.number);
+            self.count("two calls, second", second.0.number);
+            if !begins || !complete_stays || !reasons {
+                let about = format!("{} {} {room} {allowance} {more:?}: {:?} {:?}", hex(&f), hex(&p), first.0, second.0);
+                self.fault("two calls (demand 3)", &about);
+            }
+            self.partial_placements(&plan, &f, &p, figure.n());
+        }
+    }
+
+    fn rows(&mut self, figure: &[u8], patch: &[u8], room: usize, n: usize, allowance: u32) -> (Found, Vec<u16>) {
+        let (mut memory, mut list) = (self.dirt(MEMORY), self.dirt(room * n));
+        let found = self.calls.find(figure, patch, &mut memory, &mut list, allowance);
+        list.truncate(found.rows * n);
+        (found, list)
+    }
+
+    /// An allowance of the number of partial placements never ends in 2.
+    fn partial_placements(&mut self, plan: &model::Plan, figure: &[u8], patch: &[u8], n: usize) {
+        let number = match model::partials_grown(plan, 4_000) {
+            Some(number) => number,
+            None => return,
+        };
+        if let Some(counted) = model::partials(plan, 3_000) {
+            self.note("partial placements counted by tuples", 1);
+            if counted != number {
+                self.fault("two counts of partial placements", &format!("{counted} {number} {} {}", hex(figure), hex(patch)));
+            }
+        }
+        self.note("allowance of all partial placements", 1);
+        for room in [0, 1, number as usize] {
+            let found = self.rows(figure, patch, room, n, number as u32).0;
+            if found.number > 1 || found.tries as u64 > number {
+                self.fault("tries within partial placements", &format!("{found:?} of {number}: {} {}", hex(figure), hex(patch)));
+            }
+        }
+    }
+
+    /// The lengths of the memory around its least one, with good and with refused sheets, and room 0.
+    pub fn lengths(&mut self) {
+        let figure = encode(&graph(&[1, 2], &[(0, 1)]));
+        let patch = encode(&graph(&[1, 2, 2], &[(0, 1), (0, 2)]));
+        let loose = encode(&graph(&[1, 2], &[]));
+        let bad = [0x00, 0x40, 0x00, 0x51];
+        for memory in [0, 1, MEMORY - 1, MEMORY, MEMORY + 1] {
+            for (f, p) in [(&figure[..], &patch[..]), (&loose, &patch), (&figure, &bad), (&bad, &bad), (&[], &[])] {
+                for list in [0, 1, 2, 3, 4, 5] {
+                    for allowance in [0, 1, 2, 3, u32::MAX] {
+                        self.compare("lengths", &Case { figure: f, patch: p, memory, list, allowance });
+                    }
+                }
+            }
+        }
+    }
+
+    /// Document 01's benches, each with what that page says of it.
+    pub fn benches(&mut self) {
+        for bench in benches() {
+            let n = check::figure(&bench.figure).map(|g| g.n()).unwrap_or(1);
+            let case = Case { figure: &bench.figure, patch: &bench.patch, memory: bench.memory, list: bench.room * n, allowance: bench.allowance };
+            let (found, list) = self.compare("benches", &case);
+            let rows = &list[..found.rows * n];
+            if (found.number, found.tries) != (bench.number, bench.tries) || rows != &bench.rows[..] {
+                self.fault("a bench", &format!("{}: {found:?} {rows:?}", bench.name));
+            }
+        }
+        let a = [0x00, 0x80, 0x04, 0x10, 0x90, 0x00, 0x04];
+        let mut bytes = [0xff; 8];
+        let written = self.calls.write(&[1, 2], &[1, 0, 1], &mut bytes);
+        if written.number != 0 || written.count != 7 || bytes[..7] != a || bytes[7] != 0xff {
+            self.fault("bench a", &format!("{written:?} {bytes:02x?}"));
+        }
+        let read = self.calls.read(&[0x00, 0x40, 0x00, 0x51], &mut [0; 9], &mut [0; 9]);
+        if read.number != 23 {
+            self.fault("bench b", &format!("{read:?}"));
+        }
+    }
+}
+
+/// Vertices of the given kinds and cables between the given pairs.
+pub fn graph(kinds: &[u16], pairs: &[(u16, u16)]) -> Graph {
+    Graph { kinds: kinds.to_vec(), lines: pairs.iter().map(|&(a, b)| (1, a, b)).collect() }
+}
+
+struct Bench {
+    name: &'static str,
+    figure: Vec<u8>,
+    patch: Vec<u8>,
+    memory: usize,
+    room: usize,
+    allowance: u32,
+    number: u16,
+    tries: u32,
+    rows: Vec<u16>,
+}
+
+fn benches() -> Vec<Bench> {
+    let ample = |name, figure: Graph, patch: Graph, number, tries, rows: &[u16]| Bench {
+        name, figure: encode(&figure), patch: encode(&patch), memory: MEMORY, room: 100, allowance: 1_000_000, number, tries, rows: rows.to_vec(),
+    };
+    let c = || (graph(&[1, 2], &[(0, 1)]), graph(&[1, 2, 2], &[(0, 1), (0, 2)]));
+    let of_c = |name, room, allowance, number, tries, rows: &[u16]| Bench { room, allowance, ..ample(name, c().0, c().1, number, tries, rows) };
+    let alone = Bench { figure: vec![0x00, 0x40, 0x00, 0x50], ..ample("b", c().0, graph(&[5], &[]), 0, 1, &[0]) };
+    let threes = || graph(&[5, 5, 5], &[]);
+    let chain: Vec<(u16, u16)> = (0..32).map(|i| (i, i + 1)).collect();
+    vec![
+        Bench { figure: vec![0x00, 0x80, 0x04, 0x10, 0x90, 0x00, 0x04], ..of_c("a", 9, 9, 0, 3, &[0, 1, 0, 2]) },
+        alone,
+        Bench { figure: vec![0x00, 0x40, 0x00, 0x51], ..ample("b, 13", c().0, c().1, 13, 0, &[]) },
+        Bench { patch: vec![0x00, 0x40, 0x00, 0x51], ..ample("b, 23", c().0, c().1, 23, 0, &[]) },
+        of_c("c", 100, 1_000_000, 0, 3, &[0, 1, 0, 2]),
+        of_c("d, 2", 100, 2, 2, 2, &[0, 1]),
+        of_c("d, 3", 100, 3, 0, 3, &[0, 1, 0, 2]),
+        of_c("e, 1", 1, 1_000_000, 1, 3, &[0, 1]),
+        of_c("e, 2", 2, 1_000_000, 0, 3, &[0, 1, 0, 2]),
+        ample("f", graph(&[2, 2], &[(0, 1)]), graph(&[2, 2], &[(0, 1)]), 0, 4, &[0, 1, 1, 0]),
+        ample("g", graph(&[3, 3, 3], &[(0, 1), (0, 2), (1, 2)]), graph(&[3, 3, 3, 3], &[(0, 1), (0, 3), (1, 2), (2, 3)]), 0, 12, &[]),
+        ample("h", graph(&[1, 2, 3, 2], &[(0, 1), (0, 2), (0, 3)]), graph(&[1, 2, 3, 3, 3], &[(0, 1), (0, 2), (0, 3), (0, 4)]), 0, 4, &[]),
+        ample("i", graph(&[1, 2, 2, 4], &[(0, 1), (0, 2), (2, 3)]), graph(&[1, 2, 2, 4], &[(0, 1), (0, 2), (1, 3)]), 0, 6, &[0, 2, 1, 3]),
+        ample("j", graph(&[5], &[]), threes(), 0, 3, &[0, 1, 2]),
+        Bench { allowance: 0, ..ample("j, none", graph(&[6], &[]), threes(), 0, 0, &[]) },
+        ample("k, 33", graph(&[1; 33], &chain), threes(), 12, 0, &[]),
+        ample("k, unjoined", graph(&[1, 1], &[]), threes(), 16, 0, &[]),
+        Bench { memory: MEMORY - 1, ..of_c("k, memory", 9, 9, 31, 0, &[]) },
+    ]
+}
+
+/// A number at, around or well below or above another.
+fn near(random: &mut Random, value: usize) -> usize {
+    match random.below(8) {
+        0 => 0,
+        1 => value.saturating_sub(1),
+        2 => value + 1,
+        3 => random.below(value + 1),
+        4 => value + random.below(9),
+        5 => 2 * value + 3,
+        _ => value,
+    }
+}
+
+/// A length that mostly does, exactly or amply.
+fn near_length(random: &mut Random, length: usize) -> usize {
+    match random.below(8) {
+        0 => length.saturating_sub(1),
+        1 => random.below(length + 1),
+        2 => length,
+        _ => length + random.below(9),
+    }
+}
+
+fn small_figure(random: &mut Random) -> Graph {
+    let n = random.between(1, 12);
+    let size = random.between(1, 4);
+    let pool = graphs::pool(random, size);
+    let m = n - 1 + random.below(5);
+    graphs::connected(random, n, m, &pool)
+}
+
+fn small_patch(random: &mut Random) -> Graph {
+    let n = if random.chance(5) { random.between(1, 512) } else { random.between(1, 30) };
+    let most = if random.chance(5) { 2_049 } else { 2 * n + 1 };
+    let m = random.below(most);
+    let size = random.between(1, 5);
+    let pool = graphs::pool(random, size);
+    graphs::plain(random, n, m, &pool)
+}
+
+/// A figure and a patch of one of twenty classes, from tiny to the limits of the table.
+pub fn draw(random: &mut Random, class: usize) -> (Graph, Graph) {
+    match class {
+        0..=9 => tiny(random),
+        10..=14 => medium(random),
+        15..=16 => racks(random),
+        17 => large(random),
+        18 => limits(random),
+        _ => grids(random),
+    }
+}
+
+fn tiny(random: &mut Random) -> (Graph, Graph) {
+    let size = random.between(1, 3);
+    let pool = graphs::pool(random, size);
+    let n = random.between(1, 5);
+    let m = n - 1 + random.below(3);
+    let figure = graphs::connected(random, n, m, &pool);
+    let n = random.between(1, 10);
+    let m = random.below(21);
+    (figure, graphs::plain(random, n, m, &pool))
+}
+
+fn medium(random: &mut Random) -> (Graph, Graph) {
+    let size = random.between(2, 7);
+    let pool = graphs::pool(random, size);
+    let n = random.between(8, 60);
+    let m = random.between(n / 2, 3 * n);
+    let patch = graphs::plain(random, n, m, &pool);
+    let n = random.between(2, 9);
+    let figure = if random.chance(60) {
+        graphs::part(random, &patch, n, 60)
+    } else {
+        let m = n - 1 + random.below(3);
+        graphs::connected(random, n, m, &pool)
+    };
+    (sometimes_mixed(random, figure, 40), patch)
+}
+
+fn racks(random: &mut Random) -> (Graph, Graph) {
+    let modules = random.between(3, 64);
+    let cables = random.below(2 * modules);
+    let normals = random.below(modules);
+    let patch = graphs::rack(random, modules, cables, normals);
+    let n = random.between(2, 14);
+    let figure = graphs::part(random, &patch, n, 90);
+    (sometimes_mixed(random, figure, 20), patch)
+}
+
+fn large(random: &mut Random) -> (Graph, Graph) {
+    let size = random.between(14, 64);
+    let pool = graphs::pool(random, size);
+    let n = random.between(150, 512);
+    let m = random.between(n, 2_048);
+    let patch = graphs::plain(random, n, m, &pool);
+    let n = random.between(3, 32);
+    let mut figure = graphs::part(random, &patch, n, 70);
+    if random.chance(20) {
+        let u = random.below(figure.n());
+        figure.kinds[u] = *random.pick(&pool);
+    }
+    (sometimes_mixed(random, figure, 10), patch)
+}
+
+fn limits(random: &mut Random) -> (Graph, Graph) {
+    let size = random.between(40, 64);
+    let pool = graphs::pool(random, size);
+    let n = *random.pick(&[100, 256, 512, 512]);
+    let patch = graphs::plain(random, n, 2_048, &pool);
+    let n = random.between(31, 32);
+    (graphs::part(random, &patch, n, 100), patch)
+}
+
+fn grids(random: &mut Random) -> (Graph, Graph) {
+    let size = random.between(1, 3);
+    let pool = graphs::pool(random, size);
+    let (width, height) = (random.between(2, 12), random.between(2, 8));
+    let patch = graphs::grid(random, width, height, &pool);
+    let n = random.between(2, 8);
+    (graphs::part(random, &patch, n, 80), patch)
+}
+
+fn sometimes_mixed(random: &mut Random, figure: Graph, percent: usize) -> Graph {
+    if random.chance(percent) {
+        graphs::mixed(random, &figure)
+    } else {
+        figure
+    }
+}
