@@ -237,6 +237,19 @@ figure-numbered figure = numbered-append (sheetChecks figureLimits figure) (figu
 pub patch-numbered : (patch : List ℕ) → Numbered searchRefusals (sheetChecks patchLimits patch)
 patch-numbered = sheet-numbered patchLimits (tens 20 (has-out 21 _ refl) (has-out 22 _ refl) (has-out 23 _ refl) (has-out 24 _ refl) (has-out 25 _ refl))
 
+-- a patch has as many vertices as its sheet says, and a figure too
+pub patch-size : (patch : List ℕ) → patchOf patch .graph .size ≡ vertexCount patch
+unfolding patchOf kindsHeld
+patch-size patch = length-map-upto _ (vertexCount patch) 0
+
+pub figure-size : (figure : List ℕ) → figureOf figure .graph .size ≡ vertexCount figure
+unfolding figureOf kindsHeld
+figure-size figure = length-map-upto _ (vertexCount figure) 0
+
+-- a search that is handed what the checks say has a figure that passes the test
+pub handed-connected : {figure patch memory : List ℕ} → Handed figure patch memory → connected (figureOf figure) ≡ true
+handed-connected {figure} H = let D = figure-drawn figure (H .figure) in connected-iff (figureOf figure) (D .0) (D .1) .1 (H .connected)
+
 module _ (figure patch memory : List ℕ) where
   pub search-numbered : Numbered searchRefusals (searchChecks figure patch memory)
   search-numbered = numbered-append (figureChecks figure) (figure-numbered figure) (numbered-append (sheetChecks patchLimits patch) (patch-numbered patch) (numbered-cons (has-out 31 _ refl) numbered-nil))

@@ -115,7 +115,7 @@ fn check_head(sheet: &[u8], limits: SheetLimits) -> u16
     if sheet.len() != (end + 7) / 8 {
         return limits.ten + 1;
     }
-    if field(sheet, end, 8 * sheet.len() - end) != 0 {
+    if 0 < field(sheet, end, 8 * sheet.len() - end) {
         return limits.ten + 3;
     }
     0

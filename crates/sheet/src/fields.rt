@@ -73,7 +73,7 @@ pub fn line_at(bytes: &[u8], at: usize) -> SheetLine
 
 // The kind of vertex `i`.
 pub fn kind_at(bytes: &[u8], i: usize) -> u16
-    requires { ⌜ i < 1024 ⌝ }
+    requires { ⌜ i < 65536 ⌝ }
     ensures { λ r. ⌜ r ≡ rules.field (now (bytes .entry)) (22 + 6 * i) 6 ⌝ }
 {
     field(bytes, 22 + 6 * i, 6) as u16

@@ -1,6 +1,7 @@
 -- `sheet::check::check_head` meets its contract: the first test to fail gives the number, and the filling is one field. Assumes nothing.
 use mathlib.Core.Path.{sym, _∙_}
 use native.Mathlib.Omega.{arith}
+use lib.Arith.{le-zero}
 use borrow.Author.Needs.{needs}
 use Rattle.sheet.specs.Check.{limitsOf}
 use Rattle.sheet.proofs.Verdicts.{head-short, head-none, head-vertices, head-lines, head-long, head-filled, head-good, field-same}
@@ -65,10 +66,10 @@ add-result-6 : tie.Need-add-result-6
 add-result-6 c = search needs
 
 returns-6 : tie.Need-returns-6
-returns-6 c = let a = c .before .before .before .before .before .before .before .before .before .before .before .before .before .before .before .before .before .before .args in sym (head-filled (limitsOf (a .limits)) (a .sheet .now) (omega arith) (λ z. omega arith, omega arith, omega arith) (omega arith) (λ z. c .before .if6 .taken (c .before .before .field .ensures ∙ field-same (a .sheet .now) (omega arith) (omega arith) ∙ z)))
+returns-6 c = let a = c .before .before .before .before .before .before .before .before .before .before .before .before .before .before .before .before .before .before .args in sym (head-filled (limitsOf (a .limits)) (a .sheet .now) (omega arith) (λ z. omega arith, omega arith, omega arith) (omega arith) (λ z. omega (arith, c .before .if6 .taken, c .before .before .field .ensures ∙ field-same (a .sheet .now) (omega arith) (omega arith) ∙ z)))
 
 returns-7 : tie.Need-returns-7
-returns-7 c = let a = c .before .before .before .before .before .before .before .before .before .before .before .before .before .before .before .before .before .args in sym (head-good (limitsOf (a .limits)) (a .sheet .now) (omega arith) (λ z. omega arith, omega arith, omega arith) (omega arith) (field-same (a .sheet .now) (omega arith) (omega arith) ∙ sym (c .before .field .ensures) ∙ c .if6 .left))
+returns-7 c = let a = c .before .before .before .before .before .before .before .before .before .before .before .before .before .before .before .before .before .args in sym (head-good (limitsOf (a .limits)) (a .sheet .now) (omega arith) (λ z. omega arith, omega arith, omega arith) (omega arith) (field-same (a .sheet .now) (omega arith) (omega arith) ∙ sym (c .before .field .ensures) ∙ le-zero (c .if6 .left)))
 
 pub check-head-spec : {M : Type 1} → statement M
 check-head-spec =

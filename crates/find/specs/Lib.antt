@@ -1,0 +1,2 @@
+-- What the contract of the public call cites.
+pub mod Answers
