@@ -1,10 +1,10 @@
 -- The verdict of checks one after the other. Assumes nothing.
-use Prim.Native.Nat.{ℕ, _<_}
+use Prim.Native.Nat.{ℕ}
 use native.Mathlib.Omega.{arith}
 use mathlib.Core.Path.{_≡_, refl, ap, sym, _∙_}
 use mathlib.Core.Logic.{inl, inr}
-use mathlib.Core.Bool.{Bool, true, false}
-use mathlib.Core.List.{List, [], _∷_, _++_, List·Memᴰ, List·Memᴰ·head, List·Memᴰ·tail}
+use mathlib.Core.Bool.{Bool}
+use mathlib.Core.List.{List, [], _∷_, _++_, List·Memᴰ·head, List·Memᴰ·tail}
 use Rattle.laws.proofs.Lists.{split}
 use Rattle.rules.specs.Checks.{Check, verdict, sheetVerdict, sheetChecks, figureLimits, Accepted}
 use Rattle.rules.specs.Calls.{connected, figureOf, figureChecks}
