@@ -1,15 +1,15 @@
 -- The number of the first check to fail, part by part: of the checks before the lines, of one line, and of lines one after the other.
 use Prim.Native.Nat.{ℕ, zero, suc, _+_, _*_, _-_, _^_, _≤_, _<_}
-use mathlib.Core.Path.{_≡_, refl, ap, sym, _∙_}
+use mathlib.Core.Path.{_≡_, refl, sym, _∙_}
 use mathlib.Core.Logic.{inl, inr}
 use mathlib.Core.List.{List, [], _∷_, _++_, map, List·Memᴰ·head, List·Memᴰ·tail}
-use mathlib.Core.Bool.{Bool, true, false, _&&_, and-false, false≢true}
+use mathlib.Core.Bool.{true, false, and-false, false≢true}
 use mathlib.Core.Option.{some, none}
 use native.Mathlib.Nat.{zero-mul, zero-add, mul-le-mul-right}
 use native.Mathlib.Decide.{decLt}
 use native.Mathlib.Omega.{arith}
 use borrow.Author.Tests.{lt-ltb, le-ltb, le-leb, lt-leb, eq-eqb, ne-eqb, ltb-true, eqb-true, eqb-false}
-use lib.Dec.{eqb, ltb, leb}
+use lib.Dec.{eqb, ltb}
 use lib.ListN.{length}
 use lib.Pow.{pow-pos}
 use Rattle.laws.specs.Lists.{all, upto}

@@ -6,7 +6,7 @@ use native.Mathlib.Nat.{zero-mul, one-mul, zero-add, add-mul, mul-assoc, add-ass
 use native.Mathlib.Omega.{arith}
 use lib.ListN.{getD}
 use lib.Bits.{bitAnd, and-mask}
-use lib.Pow.{pow-pos, pow-add, high, low, shl-exact}
+use lib.Pow.{pow-add, high, low, shl-exact}
 use Rattle.rules.specs.Sheet.{Line, bitAt, word, field, lineAt}
 use Rattle.rules.proofs.Fields.{bitAt-lt, word-lt, byte-word}
 use Rattle.sheet.specs.Fields.{fourBytes}
@@ -54,12 +54,12 @@ module _ (bytes : List ℕ) (small : (i : ℕ) → getD bytes i 0 < 256) where
       let e : 8 * (at / 8) + at % 8 ≡ at = omega arith in
       ap (λ i. word (bitAt bytes) i w) (sym e) ∙ sym (word-inside (bitAt bytes) (bitAt-lt bytes) (8 * (at / 8)) (at % 8) w (32 - (at % 8 + w)) 32 (omega arith)) ∙ ap (λ k. k / 2 ^ (32 - (at % 8 + w)) % 2 ^ w) (four-word (at / 8))
 
--- a mask of w ones, as it is made by a shift
-pub ones : (w : ℕ) → w ≤ 25 → 1 * 2 ^ w % 2 ^ 64 ≡ 2 ^ w
-ones w h = shl-exact {a = 1} 1 w 64 (omega arith) (omega arith) ∙ one-mul (2 ^ w)
+-- a mask of w ones, as it is made by a shift in a number of W bits
+pub ones : (W w : ℕ) → w < W → 1 * 2 ^ w % 2 ^ W ≡ 2 ^ w
+ones W w h = shl-exact {a = 1} 1 w W (omega arith) (omega arith) ∙ one-mul (2 ^ w)
 
-pub masked : (x w : ℕ) → w ≤ 25 → bitAnd x (1 * 2 ^ w % 2 ^ 64 - 1) ≡ x % 2 ^ w
-masked x w h = ap (λ k. bitAnd x (k - 1)) (ones w h) ∙ and-mask x w
+pub masked : (W x w : ℕ) → w < W → bitAnd x (1 * 2 ^ w % 2 ^ W - 1) ≡ x % 2 ^ w
+masked W x w h = ap (λ k. bitAnd x (k - 1)) (ones W w h) ∙ and-mask x w
 
 -- a field is below the power of its width
 pub field-lt : (bytes : List ℕ) (i w : ℕ) → field bytes i w < 2 ^ w

@@ -1,3 +1,6 @@
 -- What the sheet's functions cite beside the rules.
 pub mod Fields
 pub mod Check
+pub mod Answers
+pub mod Pen
+pub mod Writing

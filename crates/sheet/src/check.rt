@@ -7,12 +7,13 @@ ghost use Rattle.rules.specs.Checks.{verdict, lineFits, comesAfter, lineChecks,
 ghost use Rattle.sheet.specs.Fields.{lineOf};
 ghost use Rattle.sheet.specs.Check.{limitsOf, headChecks, lineVerdict};
 use crate::fields::SheetLine;
+use crate::fields::bit_length;
 use crate::fields::counts;
 use crate::fields::field;
 use crate::fields::line_at;
 
 // The most vertices and lines that a sheet may have, and the ten that its checks are numbered from.
-pub struct SheetLimits {
+pub(crate) struct SheetLimits {
     pub vertices: u16,
     pub lines: u16,
     pub ten: u16,
@@ -23,7 +24,7 @@ pub struct Verdict {
     pub number: u16,
 }
 
-pub fn line_fits(line: SheetLine, n: u16) -> bool
+pub(crate) fn line_fits(line: SheetLine, n: u16) -> bool
     ensures { λ r. ⌜ r ≡ lineFits n (lineOf line) ⌝ }
 {
     if 2 < line.sort {
@@ -35,7 +36,7 @@ pub fn line_fits(line: SheetLine, n: u16) -> bool
     line.first < line.second
 }
 
-pub fn comes_after(before: SheetLine, line: SheetLine) -> bool
+pub(crate) fn comes_after(before: SheetLine, line: SheetLine) -> bool
     ensures { λ r. ⌜ r ≡ comesAfter (lineOf before) (lineOf line) ⌝ }
 {
     if before.first < line.first {
@@ -48,7 +49,7 @@ pub fn comes_after(before: SheetLine, line: SheetLine) -> bool
 }
 
 // The number that the checks of one line give: its fit before its order.
-pub fn line_number(before: SheetLine, line: SheetLine, n: u16, ten: u16) -> u16
+pub(crate) fn line_number(before: SheetLine, line: SheetLine, n: u16, ten: u16) -> u16
     requires { ⌜ ten ≤ 20 ⌝ }
     ensures { λ r. ⌜ r ≡ lineVerdict ten n (lineOf before) (lineOf line) ⌝ }
 {
@@ -62,7 +63,7 @@ pub fn line_number(before: SheetLine, line: SheetLine, n: u16, ten: u16) -> u16
 }
 
 // The line before the first: every line that fits comes after it.
-pub fn no_line() -> SheetLine
+pub(crate) fn no_line() -> SheetLine
     ensures { λ r. ⌜ lineOf r ≡ record { type = 0; first = 0; second = 0 } ⌝ }
 {
     SheetLine {
@@ -110,11 +111,11 @@ fn check_head(sheet: &[u8], limits: SheetLimits) -> u16
     if limits.lines < c.lines {
         return limits.ten + 2;
     }
-    let end = 22 + 6 * (c.vertices as usize) + 20 * (c.lines as usize);
+    let end = bit_length(c.vertices as usize, c.lines as usize);
     if sheet.len() != (end + 7) / 8 {
         return limits.ten + 1;
     }
-    if field(sheet, end, 8 * sheet.len() - end) != 0 {
+    if 0 < field(sheet, end, 8 * sheet.len() - end) {
         return limits.ten + 3;
     }
     0

@@ -73,7 +73,7 @@ pub fn line_at(bytes: &[u8], at: usize) -> SheetLine
 
 // The kind of vertex `i`.
 pub fn kind_at(bytes: &[u8], i: usize) -> u16
-    requires { ⌜ i < 1024 ⌝ }
+    requires { ⌜ i < 65536 ⌝ }
     ensures { λ r. ⌜ r ≡ rules.field (now (bytes .entry)) (22 + 6 * i) 6 ⌝ }
 {
     field(bytes, 22 + 6 * i, 6) as u16
@@ -86,4 +86,12 @@ pub fn counts(bytes: &[u8]) -> SheetCounts
         vertices: field(bytes, 0, 10) as u16,
         lines: field(bytes, 10, 12) as u16,
     }
+}
+
+// The length of a sheet of n vertices and m lines in bits.
+pub(crate) fn bit_length(n: usize, m: usize) -> usize
+    requires { ⌜ (n < 65536) × (m < 65536) ⌝ }
+    ensures { λ r. ⌜ r ≡ rules.bitLength n m ⌝ }
+{
+    22 + 6 * n + 20 * m
 }

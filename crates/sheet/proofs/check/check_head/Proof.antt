@@ -1,111 +1,75 @@
-use Rattle.sheet.proofs.Verdicts.{field-same}
-use Rattle.sheet.proofs.Verdicts.{head-short, head-none, head-vertices, head-lines, head-long, head-filled, head-good}
-use Rattle.sheet.specs.Check.{limitsOf}
+-- `sheet::check::check_head` meets its contract: the first test to fail gives the number, and the filling is one field. Assumes nothing.
+use mathlib.Core.Path.{sym, _∙_}
 use native.Mathlib.Omega.{arith}
-use mathlib.Core.Path.{_≡_, sym, _∙_}
+use lib.Arith.{le-zero}
 use borrow.Author.Needs.{needs}
+use Rattle.sheet.specs.Check.{limitsOf}
+use Rattle.sheet.proofs.Verdicts.{head-short, head-none, head-vertices, head-lines, head-long, head-filled, head-good, field-same}
 use Rattle.sheet.proofs.check.check_head.Statement.{statement}
 use Rattle.sheet.proofs.check.check_head.Tie as tie
-use Rattle.sheet.proofs.check.check_head.Reads as reads
-use Rattle.sheet.proofs.check.check_head.Lts as lts
-use Rattle.sheet.proofs.fields.counts.Reads as counts-reads
-use Rattle.sheet.proofs.fields.field.Reads as field-reads
 
--- src/check.rt:98:16
 add-result : tie.Need-add-result
 add-result c = search needs
 
--- src/check.rt:98:9
 returns : tie.Need-returns
 returns c = let a = c .before .before .before .args in sym (head-short (limitsOf (a .limits)) (a .sheet .now) (omega arith))
 
--- src/check.rt:100:9
 counts-requires : tie.Need-counts-requires
 counts-requires c κs = search needs
 
--- src/check.rt:102:16
 add-result-2 : tie.Need-add-result-2
 add-result-2 c = search needs
 
--- src/check.rt:102:9
 returns-2 : tie.Need-returns-2
 returns-2 c = let a = c .before .before .before .before .before .before .args in sym (head-none (limitsOf (a .limits)) (a .sheet .now) (omega arith) (omega arith))
 
--- src/check.rt:105:16
 add-result-3 : tie.Need-add-result-3
 add-result-3 c = search needs
 
--- src/check.rt:105:9
 returns-3 : tie.Need-returns-3
 returns-3 c = let a = c .before .before .before .before .before .before .before .before .before .args in sym (head-vertices (limitsOf (a .limits)) (a .sheet .now) (omega arith) (omega arith))
 
--- src/check.rt:108:16
 add-result-4 : tie.Need-add-result-4
 add-result-4 c = search needs
 
--- src/check.rt:108:9
 returns-4 : tie.Need-returns-4
 returns-4 c = let a = c .before .before .before .before .before .before .before .before .before .before .before .before .args in sym (head-lines (limitsOf (a .limits)) (a .sheet .now) (omega arith) (omega arith))
 
--- src/check.rt:110:25
-cast-end : tie.Need-cast-end
-cast-end c = search needs
+cast-bit-length : tie.Need-cast-bit-length
+cast-bit-length c = search needs
 
--- src/check.rt:110:20
-mul-end : tie.Need-mul-end
-mul-end c = search needs
+cast-bit-length-2 : tie.Need-cast-bit-length-2
+cast-bit-length-2 c = search needs
 
--- src/check.rt:110:15
-add-end : tie.Need-add-end
-add-end c = search needs
+bit-length-requires : tie.Need-bit-length-requires
+bit-length-requires c κs = search needs
 
--- src/check.rt:110:54
-cast-end-2 : tie.Need-cast-end-2
-cast-end-2 c = search needs
-
--- src/check.rt:110:48
-mul-end-2 : tie.Need-mul-end-2
-mul-end-2 c = search needs
-
--- src/check.rt:110:15
-add-end-2 : tie.Need-add-end-2
-add-end-2 c = search needs
-
--- src/check.rt:111:24
 add-if5 : tie.Need-add-if5
 add-if5 c = search needs
 
--- src/check.rt:112:16
 add-result-5 : tie.Need-add-result-5
 add-result-5 c = search needs
 
--- src/check.rt:112:9
 returns-5 : tie.Need-returns-5
-returns-5 c = let a = c .before .before .before .before .before .before .before .before .before .before .before .before .before .before .before .args in sym (head-long (limitsOf (a .limits)) (a .sheet .now) (omega arith) (λ z. omega arith, omega arith, omega arith) (λ z. omega arith))
+returns-5 c = let a = c .before .before .before .before .before .before .before .before .before .before .before .before .before .before .before .before .args in sym (head-long (limitsOf (a .limits)) (a .sheet .now) (omega arith) (λ z. omega arith, omega arith, omega arith) (λ z. omega arith))
 
--- src/check.rt:114:26
 mul-field : tie.Need-mul-field
 mul-field c = search needs
 
--- src/check.rt:114:26
 sub-field : tie.Need-sub-field
 sub-field c = search needs
 
--- src/check.rt:114:8
 field-requires : tie.Need-field-requires
 field-requires c κs = search needs
 
--- src/check.rt:115:16
 add-result-6 : tie.Need-add-result-6
 add-result-6 c = search needs
 
--- src/check.rt:115:9
 returns-6 : tie.Need-returns-6
-returns-6 c = let a = c .before .before .before .before .before .before .before .before .before .before .before .before .before .before .before .before .before .args in sym (head-filled (limitsOf (a .limits)) (a .sheet .now) (omega arith) (λ z. omega arith, omega arith, omega arith) (omega arith) (λ z. c .before .if6 .taken (c .before .before .field .ensures ∙ field-same (a .sheet .now) (omega arith) (omega arith) ∙ z)))
+returns-6 c = let a = c .before .before .before .before .before .before .before .before .before .before .before .before .before .before .before .before .before .before .args in sym (head-filled (limitsOf (a .limits)) (a .sheet .now) (omega arith) (λ z. omega arith, omega arith, omega arith) (omega arith) (λ z. omega (arith, c .before .if6 .taken, c .before .before .field .ensures ∙ field-same (a .sheet .now) (omega arith) (omega arith) ∙ z)))
 
--- src/check.rt:93:1
 returns-7 : tie.Need-returns-7
-returns-7 c = let a = c .before .before .before .before .before .before .before .before .before .before .before .before .before .before .before .before .args in sym (head-good (limitsOf (a .limits)) (a .sheet .now) (omega arith) (λ z. omega arith, omega arith, omega arith) (omega arith) (field-same (a .sheet .now) (omega arith) (omega arith) ∙ sym (c .before .field .ensures) ∙ c .if6 .left))
+returns-7 c = let a = c .before .before .before .before .before .before .before .before .before .before .before .before .before .before .before .before .before .args in sym (head-good (limitsOf (a .limits)) (a .sheet .now) (omega arith) (λ z. omega arith, omega arith, omega arith) (omega arith) (field-same (a .sheet .now) (omega arith) (omega arith) ∙ sym (c .before .field .ensures) ∙ le-zero (c .if6 .left)))
 
 pub check-head-spec : {M : Type 1} → statement M
 check-head-spec =
@@ -120,12 +84,9 @@ check-head-spec =
     returns-3
     add-result-4
     returns-4
-    cast-end
-    mul-end
-    add-end
-    cast-end-2
-    mul-end-2
-    add-end-2
+    cast-bit-length
+    cast-bit-length-2
+    bit-length-requires
     add-if5
     add-result-5
     returns-5

@@ -1,24 +1,17 @@
-use Rattle.sheet.proofs.Verdicts.{turns-begin}
-use Rattle.sheet.proofs.Verdicts.{from-nought, turn-refused, turn-passed, turns-over}
-use Rattle.rules.specs.Sheet.{Line}
-use Prim.Native.Nat.{ℕ}
-use Rattle.sheet.specs.Fields.{lineOf}
-use Rattle.rules.specs.Checks.{verdict, lineChecks}
-use Rattle.rules.specs.Sheet.{lineAt, linesHeld}
-use Rattle.laws.specs.Lists.{upto}
+-- `sheet::check::check_lines` meets its contract. The invariant: the verdict on all the lines is that on the lines from the i-th on, after the line before. Assumes nothing.
+use Prim.Native.Nat.{ℕ, _≤_, _-_, _+_, _*_}
 use mathlib.Core.Option.{some, none}
 use mathlib.Core.List.{map}
-use mathlib.Core.Path.{_≡_, refl, sym, _∙_, ap}
-use Prim.Native.Nat.{_≤_, _-_, _+_, _*_}
-use borrow.Author.Needs.{needs}
+use mathlib.Core.Path.{_≡_, sym, _∙_, ap}
 use native.Mathlib.Omega.{arith}
+use borrow.Author.Needs.{needs}
+use Rattle.laws.specs.Lists.{upto}
+use Rattle.rules.specs.Sheet.{Line, lineAt, linesHeld}
+use Rattle.rules.specs.Checks.{verdict, lineChecks}
+use Rattle.sheet.specs.Fields.{lineOf}
+use Rattle.sheet.proofs.Verdicts.{turns-begin, turn-refused, turn-passed, turns-over}
 use Rattle.sheet.proofs.check.check_lines.Statement.{statement}
 use Rattle.sheet.proofs.check.check_lines.Tie as tie
-use Rattle.sheet.proofs.check.check_lines.Reads as reads
-use Rattle.sheet.proofs.check.check_lines.Lts as lts
-use Rattle.sheet.proofs.check.line_number.Reads as line-number-reads
-use Rattle.sheet.proofs.check.no_line.Reads as no-line-reads
-use Rattle.sheet.proofs.fields.line_at.Reads as line-at-reads
 
 abbrev Inv-loop : tie.InvT-loop
 Inv-loop sheet n m ten before₀ at₀ i₀ before at i = (i ≤ m) × (at ≡ 22 + 6 * n + 20 * i) × (verdict (lineChecks ten n none (linesHeld sheet n m)) ≡ verdict (lineChecks ten n (some (lineOf before)) (map (λ j. lineAt sheet (22 + 6 * n + 20 * j)) (upto (m - i) i))))
@@ -26,60 +19,48 @@ Inv-loop sheet n m ten before₀ at₀ i₀ before at i = (i ≤ m) × (at ≡ 2
 abbrev μ-loop : tie.MeasureT-loop
 μ-loop sheet n m ten before₀ at₀ i₀ before at i = m - i
 
--- src/check.rt:76:9
 no-line-requires : tie.Need-no-line-requires Inv-loop μ-loop
 no-line-requires c κs = search needs
 
--- src/check.rt:77:23
 mul-at : tie.Need-mul-at Inv-loop μ-loop
 mul-at c = search needs
 
--- src/check.rt:77:18
 add-at : tie.Need-add-at Inv-loop μ-loop
 add-at c = search needs
 
--- src/check.rt:79:5
 loop-holds : tie.Need-loop-holds Inv-loop μ-loop
 unfolding linesHeld
 loop-holds c = let a = c .before .before .args in
     let g : ℕ → Line = λ j. lineAt (a .sheet .now) (22 + 6 * a .n + 20 * j) in
     (omega arith, omega arith, turns-begin g (a .ten) (a .n) (a .m) (lineOf (c .no-line .result)) (c .no-line .ensures))
 
--- src/check.rt:80:13
 line-at-requires : tie.Need-line-at-requires Inv-loop μ-loop
 line-at-requires c κs = search needs
 
--- src/check.rt:81:9
 add-i : tie.Need-add-i Inv-loop μ-loop
 add-i c = search needs
 
--- src/check.rt:82:9
 add-at-2 : tie.Need-add-at-2 Inv-loop μ-loop
 add-at-2 c = search needs
 
--- src/check.rt:83:13
 line-number-requires : tie.Need-line-number-requires Inv-loop μ-loop
 line-number-requires c κs = search needs
 
--- src/check.rt:85:13
 returns : tie.Need-returns Inv-loop μ-loop
 returns c = let a = c .before .before .before .before .before .before .before .args in
     let l = c .before .before .before .before .loop in
     let g : ℕ → Line = λ j. lineAt (a .sheet .now) (22 + 6 * a .n + 20 * j) in
     c .before .line-number .ensures ∙ sym (l .inv .2 ∙ turn-refused g (a .ten) (a .n) (a .m) (l .i) (lineOf (l .before)) (lineOf (c .before .before .line-at .result)) (omega arith) (c .before .before .line-at .ensures ∙ ap (lineAt (a .sheet .now)) (l .inv .1)) (λ z. c .if1 .taken (c .before .line-number .ensures ∙ z)))
 
--- src/check.rt:79:5
 loop-less : tie.Need-loop-less Inv-loop μ-loop
 loop-less c = search needs
 
--- src/check.rt:79:5
 loop-again : tie.Need-loop-again Inv-loop μ-loop
 loop-again c = let a = c .before .before .before .before .before .before .before .args in
     let l = c .before .before .before .before .loop in
     let g : ℕ → Line = λ j. lineAt (a .sheet .now) (22 + 6 * a .n + 20 * j) in
     (omega arith, omega arith, l .inv .2 ∙ turn-passed g (a .ten) (a .n) (a .m) (l .i) (lineOf (l .before)) (lineOf (c .before .before .line-at .result)) (omega arith) (c .before .before .line-at .ensures ∙ ap (lineAt (a .sheet .now)) (l .inv .1)) (sym (c .before .line-number .ensures) ∙ c .if1 .left))
 
--- src/check.rt:72:1
 returns-2 : tie.Need-returns-2 Inv-loop μ-loop
 returns-2 c = let a = c .before .before .before .before .args in
     let l = c .before .loop in

@@ -1,21 +1,17 @@
-use Rattle.sheet.proofs.Verdicts.{after-first, not-after, after-second}
-use Rattle.sheet.specs.Fields.{lineOf}
+-- `sheet::check::comes_after` meets its contract: each test that decides is what `comesAfter` says. Assumes nothing.
+use mathlib.Core.Path.{sym}
 use native.Mathlib.Omega.{arith}
-use mathlib.Core.Path.{_≡_, sym, _∙_}
+use Rattle.sheet.specs.Fields.{lineOf}
+use Rattle.sheet.proofs.Verdicts.{after-first, not-after, after-second}
 use Rattle.sheet.proofs.check.comes_after.Statement.{statement}
 use Rattle.sheet.proofs.check.comes_after.Tie as tie
-use Rattle.sheet.proofs.check.comes_after.Reads as reads
-use Rattle.sheet.proofs.check.comes_after.Lts as lts
 
--- src/check.rt:39:9
 returns : tie.Need-returns
 returns c = let a = c .before .before .before .args in sym (after-first (lineOf (a .before)) (lineOf (a .line)) (c .if1 .taken))
 
--- src/check.rt:42:9
 returns-2 : tie.Need-returns-2
 returns-2 c = let a = c .before .before .before .before .before .before .args in sym (not-after (lineOf (a .before)) (lineOf (a .line)) (omega arith) (c .if2 .taken))
 
--- src/check.rt:35:1
 returns-3 : tie.Need-returns-3
 returns-3 c = let a = c .before .before .before .before .before .before .before .before .args in sym (after-second (lineOf (a .before)) (lineOf (a .line)) (omega arith) (omega arith))
 

@@ -1,40 +1,30 @@
+-- `sheet::check::line_number` meets its contract: the first of the two tests to fail gives the number. Assumes nothing.
+use mathlib.Core.Path.{sym, _∙_}
 use borrow.Author.Tests.{not-true, not-false}
-use Rattle.sheet.proofs.Verdicts.{line-unfit, line-late, line-good}
-use Rattle.sheet.specs.Fields.{lineOf}
-use mathlib.Core.Path.{_≡_, sym, _∙_}
 use borrow.Author.Needs.{needs}
+use Rattle.sheet.specs.Fields.{lineOf}
+use Rattle.sheet.proofs.Verdicts.{line-unfit, line-late, line-good}
 use Rattle.sheet.proofs.check.line_number.Statement.{statement}
 use Rattle.sheet.proofs.check.line_number.Tie as tie
-use Rattle.sheet.proofs.check.line_number.Reads as reads
-use Rattle.sheet.proofs.check.line_number.Lts as lts
-use Rattle.sheet.proofs.check.comes_after.Reads as comes-after-reads
-use Rattle.sheet.proofs.check.line_fits.Reads as line-fits-reads
 
--- src/check.rt:52:9
 line-fits-requires : tie.Need-line-fits-requires
 line-fits-requires c κs = search needs
 
--- src/check.rt:53:16
 add-result : tie.Need-add-result
 add-result c = search needs
 
--- src/check.rt:53:9
 returns : tie.Need-returns
 returns c = let a = c .before .before .args in sym (line-unfit (a .ten) (a .n) (lineOf (a .before)) (lineOf (a .line)) (sym (c .before .line-fits .ensures) ∙ not-true _ (c .if1 .taken)))
 
--- src/check.rt:55:9
 comes-after-requires : tie.Need-comes-after-requires
 comes-after-requires c κs = search needs
 
--- src/check.rt:56:16
 add-result-2 : tie.Need-add-result-2
 add-result-2 c = search needs
 
--- src/check.rt:56:9
 returns-2 : tie.Need-returns-2
 returns-2 c = let a = c .before .before .before .before .args in sym (line-late (a .ten) (a .n) (lineOf (a .before)) (lineOf (a .line)) (sym (c .before .before .before .line-fits .ensures) ∙ not-false _ (c .before .before .if1 .left)) (sym (c .before .comes-after .ensures) ∙ not-true _ (c .if2 .taken)))
 
--- src/check.rt:48:1
 returns-3 : tie.Need-returns-3
 returns-3 c = let a = c .before .before .before .before .args in sym (line-good (a .ten) (a .n) (lineOf (a .before)) (lineOf (a .line)) (sym (c .before .before .before .line-fits .ensures) ∙ not-false _ (c .before .before .if1 .left)) (sym (c .before .comes-after .ensures) ∙ not-false _ (c .if2 .left)))
 

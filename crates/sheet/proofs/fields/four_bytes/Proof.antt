@@ -1,143 +1,106 @@
-use Rattle.sheet.specs.Fields.{fourBytes}
-use native.Mathlib.Omega.{arith}
+-- `sheet::fields::four_bytes` meets its contract: either way the four bytes are taken as one number. Assumes nothing.
 use borrow.Author.Needs.{needs}
+use Rattle.sheet.specs.Fields.{fourBytes}
 use Rattle.sheet.proofs.fields.four_bytes.Statement.{statement}
 use Rattle.sheet.proofs.fields.four_bytes.Tie as tie
-use Rattle.sheet.proofs.fields.four_bytes.Reads as reads
-use Rattle.sheet.proofs.fields.four_bytes.Lts as lts
-use Rattle.sheet.proofs.fields.byte_or_zero.Reads as byte-or-zero-reads
-use Rattle.sheet.proofs.fields.wide.Reads as wide-reads
 
--- src/fields.rt:27:8
 add-if1 : tie.Need-add-if1
 add-if1 c = search needs
 
--- src/fields.rt:28:21
 shared-slice-read-wide : tie.Need-shared-slice-read-wide
 shared-slice-read-wide c = search needs
 
--- src/fields.rt:28:16
 wide-requires : tie.Need-wide-requires
 wide-requires c κs = search needs
 
--- src/fields.rt:28:16
 mul-result : tie.Need-mul-result
 mul-result c = search needs
 
--- src/fields.rt:29:26
 add-wide : tie.Need-add-wide
 add-wide c = search needs
 
--- src/fields.rt:29:20
 shared-slice-read-wide-2 : tie.Need-shared-slice-read-wide-2
 shared-slice-read-wide-2 c = search needs
 
--- src/fields.rt:29:15
 wide-requires-2 : tie.Need-wide-requires-2
 wide-requires-2 c κs = search needs
 
--- src/fields.rt:29:15
 mul-result-2 : tie.Need-mul-result-2
 mul-result-2 c = search needs
 
--- src/fields.rt:28:16
 add-result : tie.Need-add-result
 add-result c = search needs
 
--- src/fields.rt:30:26
 add-wide-2 : tie.Need-add-wide-2
 add-wide-2 c = search needs
 
--- src/fields.rt:30:20
 shared-slice-read-wide-3 : tie.Need-shared-slice-read-wide-3
 shared-slice-read-wide-3 c = search needs
 
--- src/fields.rt:30:15
 wide-requires-3 : tie.Need-wide-requires-3
 wide-requires-3 c κs = search needs
 
--- src/fields.rt:30:15
 mul-result-3 : tie.Need-mul-result-3
 mul-result-3 c = search needs
 
--- src/fields.rt:28:16
 add-result-2 : tie.Need-add-result-2
 add-result-2 c = search needs
 
--- src/fields.rt:31:26
 add-wide-3 : tie.Need-add-wide-3
 add-wide-3 c = search needs
 
--- src/fields.rt:31:20
 shared-slice-read-wide-4 : tie.Need-shared-slice-read-wide-4
 shared-slice-read-wide-4 c = search needs
 
--- src/fields.rt:31:15
 wide-requires-4 : tie.Need-wide-requires-4
 wide-requires-4 c κs = search needs
 
--- src/fields.rt:28:16
 add-result-3 : tie.Need-add-result-3
 add-result-3 c = search needs
 
--- src/fields.rt:28:9
 returns : tie.Need-returns
 unfolding fourBytes
 returns c = search needs
 
--- src/fields.rt:33:5
 byte-or-zero-requires : tie.Need-byte-or-zero-requires
 byte-or-zero-requires c κs = search needs
 
--- src/fields.rt:33:5
 mul-result-4 : tie.Need-mul-result-4
 mul-result-4 c = search needs
 
--- src/fields.rt:34:31
 add-byte-or-zero : tie.Need-add-byte-or-zero
 add-byte-or-zero c = search needs
 
--- src/fields.rt:34:11
 byte-or-zero-requires-2 : tie.Need-byte-or-zero-requires-2
 byte-or-zero-requires-2 c κs = search needs
 
--- src/fields.rt:34:11
 mul-result-5 : tie.Need-mul-result-5
 mul-result-5 c = search needs
 
--- src/fields.rt:33:5
 add-result-4 : tie.Need-add-result-4
 add-result-4 c = search needs
 
--- src/fields.rt:35:31
 add-byte-or-zero-2 : tie.Need-add-byte-or-zero-2
 add-byte-or-zero-2 c = search needs
 
--- src/fields.rt:35:11
 byte-or-zero-requires-3 : tie.Need-byte-or-zero-requires-3
 byte-or-zero-requires-3 c κs = search needs
 
--- src/fields.rt:35:11
 mul-result-6 : tie.Need-mul-result-6
 mul-result-6 c = search needs
 
--- src/fields.rt:33:5
 add-result-5 : tie.Need-add-result-5
 add-result-5 c = search needs
 
--- src/fields.rt:36:31
 add-byte-or-zero-3 : tie.Need-add-byte-or-zero-3
 add-byte-or-zero-3 c = search needs
 
--- src/fields.rt:36:11
 byte-or-zero-requires-4 : tie.Need-byte-or-zero-requires-4
 byte-or-zero-requires-4 c κs = search needs
 
--- src/fields.rt:33:5
 add-result-6 : tie.Need-add-result-6
 add-result-6 c = search needs
 
--- src/fields.rt:23:1
 returns-2 : tie.Need-returns-2
 unfolding fourBytes
 returns-2 c = search needs
