@@ -242,7 +242,7 @@ fn put_counts(bytes: &mut [u8], n: u8, m: u8)
     bytes[2] = m * 4 + bytes[2] % 4;
 }
 
-// Random bytes under counts that give their length, or a byte less.
+// Random bytes under counts that give their length, or a byte more.
 pub(crate) fn one_random(seed: u32, tally: &mut [u32], d: u64) -> Drawn {
     let mut bytes = [0u8; 64];
     let s = next(seed);
