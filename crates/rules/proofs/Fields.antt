@@ -29,7 +29,7 @@ module _ (f : ℕ → ℕ) (two : (j : ℕ) → f j < 2) where
   word-lt i (suc w) = rw pow-succ' (omega (arith, word-lt (suc i) w, mul-le-mul-right {m = f i} {n = 1} (2 ^ w) (omega (arith, two i))))
 
 -- the bits of a number do not depend on what stands above them
-bits-below : (w a x : ℕ) → bits w (a * 2 ^ w + x) ≡ bits w x
+pub bits-below : (w a x : ℕ) → bits w (a * 2 ^ w + x) ≡ bits w x
 unfolding bits
 bits-below zero a x = refl
 bits-below (suc w) a x = rw q (ap₂ _∷_ (ap (λ k. k % 2) (rw (add-comm (a * 2 * 2 ^ w) x) (add-mul-div-right x (a * 2) (pow-pos w))) ∙ add-mul-mod-self-right (x / 2 ^ w) a 2) (bits-below w (a * 2) x))

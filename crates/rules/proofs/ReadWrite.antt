@@ -37,7 +37,7 @@ triples-lines (t ∷ []) e = absurd (omega arith)
 triples-lines (t ∷ (a ∷ [])) e = absurd (omega arith)
 triples-lines (t ∷ (a ∷ (b ∷ r))) e = ap (λ r. t ∷ a ∷ b ∷ r) (triples-lines r (omega arith))
 
-length-linesOf : (l : List ℕ) → length (linesOf l) ≡ length l / 3
+pub length-linesOf : (l : List ℕ) → length (linesOf l) ≡ length l / 3
 unfolding linesOf
 length-linesOf [] = refl
 length-linesOf (t ∷ []) = refl

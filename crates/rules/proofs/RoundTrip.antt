@@ -73,17 +73,17 @@ two-layout : (s : Sheet) → Two (layout s)
 unfolding layout
 two-layout s = two-append (bits 10 (length (s .kinds))) _ (two-bits 10 (length (s .kinds))) (two-append (bits 12 (length (s .lines))) _ (two-bits 12 (length (s .lines))) (two-append (kindBits (s .kinds)) _ (two-kinds (s .kinds)) (two-lines (s .lines))))
 
-length-kinds : (ks : List ℕ) → length (kindBits ks) ≡ 6 * length ks
+pub length-kinds : (ks : List ℕ) → length (kindBits ks) ≡ 6 * length ks
 unfolding kindBits
 length-kinds [] = refl
 length-kinds (k ∷ ks) = simp (length-append, length-bits, length-kinds ks) (omega arith)
 
-length-lines : (ls : List Line) → length (lineBits ls) ≡ 20 * length ls
+pub length-lines : (ls : List Line) → length (lineBits ls) ≡ 20 * length ls
 unfolding lineBits
 length-lines [] = refl
 length-lines (l ∷ ls) = simp (length-append, length-bits, length-lines ls) (omega arith)
 
-length-layout : (s : Sheet) → length (layout s) ≡ bitLength (length (s .kinds)) (length (s .lines))
+pub length-layout : (s : Sheet) → length (layout s) ≡ bitLength (length (s .kinds)) (length (s .lines))
 unfolding layout
 length-layout s = simp (length-append, length-bits, length-kinds, length-lines) (omega arith)
 

@@ -26,31 +26,31 @@ run (read b) = let r = reader b (replicate 3 4) (replicate 4 4) in r .number ∷
 run (find f p k n a) = let s = search f p (replicate k 4) (replicate n 4) a in s .number ∷ s .rows ∷ s .tries ∷ s .list
 
 -- the sheet of kinds and of cables between pairs of vertices
-abbrev S : List ℕ → List (ℕ × ℕ) → List ℕ
+abbrev pub S : List ℕ → List (ℕ × ℕ) → List ℕ
 S ks ls = written (record { kinds = ks; lines = map (λ l. record { type = cable; first = l .0; second = l .1 }) ls })
 
 -- working memory that is just long enough
-abbrev W : ℕ
+abbrev pub W : ℕ
 W = 22_528
 
 -- the figure of benches c, d and e, which is bench a's sheet
-abbrev cF : List ℕ
+abbrev pub cF : List ℕ
 cF = 0x00 ∷ 0x80 ∷ 0x04 ∷ 0x10 ∷ 0x90 ∷ 0x00 ∷ 0x04 ∷ []
 
 -- the patch of benches c, d and e
-abbrev cP : List ℕ
+abbrev pub cP : List ℕ
 cP = S (1 ∷ 2 ∷ 2 ∷ []) ((0, 1) ∷ (0, 2) ∷ [])
 
 -- figure and patch of bench f
-abbrev fS : List ℕ
+abbrev pub fS : List ℕ
 fS = S (2 ∷ 2 ∷ []) ((0, 1) ∷ [])
 
 -- the triangle of bench g
-abbrev gF : List ℕ
+abbrev pub gF : List ℕ
 gF = S (3 ∷ 3 ∷ 3 ∷ []) ((0, 1) ∷ (0, 2) ∷ (1, 2) ∷ [])
 
 -- the four-ring of bench g
-abbrev gP : List ℕ
+abbrev pub gP : List ℕ
 gP = S (3 ∷ 3 ∷ 3 ∷ 3 ∷ []) ((0, 1) ∷ (0, 3) ∷ (1, 2) ∷ (2, 3) ∷ [])
 
 -- the figure of bench h
@@ -62,43 +62,43 @@ abbrev pub hP : List ℕ
 hP = S (1 ∷ 2 ∷ 3 ∷ 3 ∷ 3 ∷ []) ((0, 1) ∷ (0, 2) ∷ (0, 3) ∷ (0, 4) ∷ [])
 
 -- the figure of bench i
-abbrev iF : List ℕ
+abbrev pub iF : List ℕ
 iF = S (1 ∷ 2 ∷ 2 ∷ 4 ∷ []) ((0, 1) ∷ (0, 2) ∷ (2, 3) ∷ [])
 
 -- the patch of bench i
-abbrev iP : List ℕ
+abbrev pub iP : List ℕ
 iP = S (1 ∷ 2 ∷ 2 ∷ 4 ∷ []) ((0, 1) ∷ (0, 2) ∷ (1, 3) ∷ [])
 
 -- bench b's sheet
-abbrev bS : List ℕ
+abbrev pub bS : List ℕ
 bS = 0x00 ∷ 0x40 ∷ 0x00 ∷ 0x50 ∷ []
 
 -- the same with last byte 51
-abbrev bT : List ℕ
+abbrev pub bT : List ℕ
 bT = 0x00 ∷ 0x40 ∷ 0x00 ∷ 0x51 ∷ []
 
 -- the patch of bench j
-abbrev jP : List ℕ
+abbrev pub jP : List ℕ
 jP = S (5 ∷ 5 ∷ 5 ∷ []) []
 
 -- the triangle of bench l
-abbrev lF : List ℕ
+abbrev pub lF : List ℕ
 lF = S (0 ∷ 1 ∷ 2 ∷ []) ((0, 1) ∷ (0, 2) ∷ (1, 2) ∷ [])
 
 -- the patch of bench l, where a set becomes empty only in the third pass
-abbrev lP : List ℕ
+abbrev pub lP : List ℕ
 lP = S (2 ∷ 2 ∷ 2 ∷ 1 ∷ 0 ∷ 0 ∷ 1 ∷ 1 ∷ 0 ∷ []) ((0, 2) ∷ (0, 3) ∷ (1, 6) ∷ (1, 8) ∷ (2, 4) ∷ (2, 7) ∷ (2, 8) ∷ (3, 7) ∷ (4, 6) ∷ (5, 6) ∷ (5, 7) ∷ [])
 
 -- the patch of bench m, where the passes would change the root
-abbrev mP : List ℕ
+abbrev pub mP : List ℕ
 mP = S (1 ∷ 0 ∷ 0 ∷ 1 ∷ []) ((0, 1) ∷ (0, 2) ∷ (0, 3) ∷ [])
 
 -- bench a: the sheet is written, and read
-abbrev a : List (Call × List ℕ)
+abbrev pub a : List (Call × List ℕ)
 a = (write (1 ∷ 2 ∷ []) (1 ∷ 0 ∷ 1 ∷ []), 0 ∷ 7 ∷ (cF ++ 4 ∷ [])) ∷ (read cF, 0 ∷ 2 ∷ 1 ∷ 1 ∷ 2 ∷ 4 ∷ 1 ∷ 0 ∷ 1 ∷ 4 ∷ []) ∷ []
 
 -- bench b: the sheet is written, and read; with last byte 51 it is refused by the reader, as a figure and as a patch
-abbrev b : List (Call × List ℕ)
+abbrev pub b : List (Call × List ℕ)
 b =
     (write (5 ∷ []) [], 0 ∷ 4 ∷ (bS ++ 4 ∷ 4 ∷ 4 ∷ 4 ∷ []))
     ∷ (read bS, 0 ∷ 1 ∷ 0 ∷ 5 ∷ 4 ∷ 4 ∷ 4 ∷ 4 ∷ 4 ∷ 4 ∷ [])
@@ -108,51 +108,51 @@ b =
     ∷ []
 
 -- bench c: two rows, complete, 3 tries
-abbrev c : List (Call × List ℕ)
+abbrev pub c : List (Call × List ℕ)
 c = (find cF cP W 6 10, 0 ∷ 2 ∷ 3 ∷ 0 ∷ 1 ∷ 0 ∷ 2 ∷ 4 ∷ 4 ∷ []) ∷ []
 
 -- bench d: an allowance of 2, and of 3
-abbrev d : List (Call × List ℕ)
+abbrev pub d : List (Call × List ℕ)
 d = (find cF cP W 6 2, 2 ∷ 1 ∷ 2 ∷ 0 ∷ 1 ∷ 4 ∷ 4 ∷ 4 ∷ 4 ∷ []) ∷ (find cF cP W 6 3, 0 ∷ 2 ∷ 3 ∷ 0 ∷ 1 ∷ 0 ∷ 2 ∷ 4 ∷ 4 ∷ []) ∷ []
 
 -- bench e: room for 1 row, and for 2
-abbrev e : List (Call × List ℕ)
+abbrev pub e : List (Call × List ℕ)
 e = (find cF cP W 2 10, 1 ∷ 1 ∷ 3 ∷ 0 ∷ 1 ∷ []) ∷ (find cF cP W 4 10, 0 ∷ 2 ∷ 3 ∷ 0 ∷ 1 ∷ 0 ∷ 2 ∷ []) ∷ []
 
 -- bench f: both mirror images
-abbrev f : List (Call × List ℕ)
+abbrev pub f : List (Call × List ℕ)
 f = (find fS fS W 5 10, 0 ∷ 2 ∷ 4 ∷ 0 ∷ 1 ∷ 1 ∷ 0 ∷ 4 ∷ []) ∷ []
 
 -- bench g: no triangle in a four-ring, 12 tries
-abbrev g : List (Call × List ℕ)
+abbrev pub g : List (Call × List ℕ)
 g = (find gF gP W 3 100, 0 ∷ 0 ∷ 12 ∷ 4 ∷ 4 ∷ 4 ∷ []) ∷ []
 
 -- bench h: none, 4 tries
-abbrev h : List (Call × List ℕ)
+abbrev pub h : List (Call × List ℕ)
 h = (find hF hP W 4 100, 0 ∷ 0 ∷ 4 ∷ 4 ∷ 4 ∷ 4 ∷ 4 ∷ []) ∷ []
 
 -- bench i: one row, 6 tries
-abbrev i : List (Call × List ℕ)
+abbrev pub i : List (Call × List ℕ)
 i = (find iF iP W 8 100, 0 ∷ 1 ∷ 6 ∷ 0 ∷ 2 ∷ 1 ∷ 3 ∷ 4 ∷ 4 ∷ 4 ∷ 4 ∷ []) ∷ []
 
 -- bench j: a figure of one vertex; of a kind that the patch lacks it gets no try, even with allowance 0
-abbrev j : List (Call × List ℕ)
+abbrev pub j : List (Call × List ℕ)
 j = (find bS jP W 4 10, 0 ∷ 3 ∷ 3 ∷ 0 ∷ 1 ∷ 2 ∷ 4 ∷ []) ∷ (find (S (6 ∷ []) []) jP W 4 0, 0 ∷ 0 ∷ 0 ∷ 4 ∷ 4 ∷ 4 ∷ 4 ∷ []) ∷ []
 
 -- bench k: 33 vertices, two unjoined vertices, short working memory
-abbrev k : List (Call × List ℕ)
+abbrev pub k : List (Call × List ℕ)
 k = (find (S (replicate 33 5) []) jP W 1 10, 12 ∷ 0 ∷ 0 ∷ 4 ∷ []) ∷ (find (S (5 ∷ 5 ∷ []) []) jP W 1 10, 16 ∷ 0 ∷ 0 ∷ 4 ∷ []) ∷ (find cF cP 22_527 1 10, 31 ∷ 0 ∷ 0 ∷ 4 ∷ []) ∷ []
 
 -- our bench l: the third pass empties a set, so there is no try; two passes would leave 2 tries
-abbrev l : List (Call × List ℕ)
+abbrev pub l : List (Call × List ℕ)
 l = (find lF lP W 1 10, 0 ∷ 0 ∷ 0 ∷ 4 ∷ []) ∷ []
 
 -- our bench m: the root is chosen before the passes; after them it would be the other vertex, with 3 tries
-abbrev m : List (Call × List ℕ)
+abbrev pub m : List (Call × List ℕ)
 m = (find (S (0 ∷ 1 ∷ []) ((0, 1) ∷ [])) mP W 4 10, 0 ∷ 2 ∷ 4 ∷ 1 ∷ 0 ∷ 2 ∷ 0 ∷ []) ∷ []
 
 -- our bench n: a line whose first end is not below its second; a line that stands twice; a line with both faults, where 24 comes before 25
-abbrev n : List (Call × List ℕ)
+abbrev pub n : List (Call × List ℕ)
 n =
     (read (S (1 ∷ 2 ∷ []) ((1, 1) ∷ [])), 24 ∷ 0 ∷ 0 ∷ 4 ∷ 4 ∷ 4 ∷ 4 ∷ 4 ∷ 4 ∷ 4 ∷ [])
     ∷ (read (S (1 ∷ 2 ∷ []) ((0, 1) ∷ (0, 1) ∷ [])), 25 ∷ 0 ∷ 0 ∷ 4 ∷ 4 ∷ 4 ∷ 4 ∷ 4 ∷ 4 ∷ 4 ∷ [])
@@ -160,11 +160,11 @@ n =
     ∷ []
 
 -- our bench o: a sheet whose bits fill its last byte has no byte more
-abbrev o : List (Call × List ℕ)
+abbrev pub o : List (Call × List ℕ)
 o = (write (5 ∷ 5 ∷ 5 ∷ []) [], 0 ∷ 5 ∷ 0x00 ∷ 0xC0 ∷ 0x00 ∷ 0x51 ∷ 0x45 ∷ 4 ∷ 4 ∷ 4 ∷ []) ∷ []
 
 -- the table
-abbrev benches : List (Call × List ℕ)
+abbrev pub benches : List (Call × List ℕ)
 benches = a ++ (b ++ (c ++ (d ++ (e ++ (f ++ (g ++ (h ++ (i ++ (j ++ (k ++ (l ++ (m ++ (n ++ o)))))))))))))
 
 -- every bench gives what is said, and bench h has 8 partial placements

@@ -2,37 +2,21 @@
 use Prim.Native.Nat.{ℕ, zero, suc, _+_, _*_, _/_, _%_, _^_, _≤_, _<_}
 use mathlib.Core.Path.{_≡_, refl, ap, ap₂, sym, _∙_}
 use mathlib.Core.List.{List, [], _∷_, _++_, map, append-assoc, append-nil, List·Memᴰ}
-use native.Mathlib.Nat.{add-comm, mul-assoc, pow-succ', add-mul-div-right, add-mul-mod-self-right}
 use native.Mathlib.Numerals.{add-one}
 use native.Mathlib.Omega.{arith}
 use mathlib.Core.Bool.{false}
 use borrow.Author.Tests.{le-leb, lt-leb}
 use lib.Dec.{leb}
-use lib.ListN.{length, getD, take, drop, length-append}
+use lib.ListN.{length, getD, take, drop}
 use lib.Seq.{take-suc, drop-cons}
-use lib.Pow.{pow-pos, shr-shr, high}
+use lib.Pow.{shr-shr, high}
 use Rattle.laws.specs.Lists.{all, upto}
 use Rattle.laws.proofs.Lists.{length-map-upto, getD-map-upto, getD-in}
-use Rattle.rules.specs.Sheet.{Line, Sheet, bits, kindBits, lineBits, layout, bitLength}
+use Rattle.rules.specs.Sheet.{Line, bits, kindBits, lineBits}
 use Rattle.rules.specs.Calls.{linesOf}
-use Rattle.rules.proofs.Fields.{length-bits}
+use Rattle.rules.proofs.Fields.{bits-below}
 use Rattle.sheet.specs.Writing.{lineIn}
 use Rattle.sheet.proofs.Stores.{map-next}
-
--- the lengths of the bits of kinds, lines and a whole sheet
-pub length-kindBits : (ks : List ℕ) → length (kindBits ks) ≡ 6 * length ks
-unfolding kindBits
-length-kindBits [] = refl
-length-kindBits (k ∷ ks) = simp (length-append, length-bits, length-kindBits ks) (omega arith)
-
-pub length-lineBits : (ls : List Line) → length (lineBits ls) ≡ 20 * length ls
-unfolding lineBits
-length-lineBits [] = refl
-length-lineBits (l ∷ ls) = simp (length-append, length-bits, length-lineBits ls) (omega arith)
-
-pub length-layout : (s : Sheet) → length (layout s) ≡ bitLength (length (s .kinds)) (length (s .lines))
-unfolding layout
-length-layout s = simp (length-append, length-bits, length-kindBits, length-lineBits) (omega arith)
 
 -- the bits of one kind more, and of one line more
 kindBits-append : (a b : List ℕ) → kindBits (a ++ b) ≡ kindBits a ++ kindBits b
@@ -48,15 +32,6 @@ lineBits-append : (a b : List Line) → lineBits (a ++ b) ≡ lineBits a ++ line
 unfolding lineBits
 lineBits-append [] b = refl
 lineBits-append (l ∷ a) b = simp (lineBits-append a b, append-assoc)
-
--- the bits of a number do not depend on what stands above them
-bits-below : (w a x : ℕ) → bits w (a * 2 ^ w + x) ≡ bits w x
-unfolding bits
-bits-below zero a x = refl
-bits-below (suc w) a x = rw q (ap₂ _∷_ (ap (λ k. k % 2) (rw (add-comm (a * 2 * 2 ^ w) x) (add-mul-div-right x (a * 2) (pow-pos w))) ∙ add-mul-mod-self-right (x / 2 ^ w) a 2) (bits-below w (a * 2) x))
-  where
-    q : a * 2 ^ suc w ≡ a * 2 * 2 ^ w
-    q = rw (pow-succ', mul-assoc)
 
 -- the upper bits of a number, then the lower
 bits-apart : (a b c x : ℕ) → c ≡ a + b → bits c x ≡ bits a (x / 2 ^ b) ++ bits b x
@@ -111,9 +86,6 @@ module _ (ks : List ℕ) (i : ℕ) (h : i < length ks) where
 
   pub kind-fits : getD ks i 0 ≤ 63 → all (λ k. leb k 63) (drop i ks) ≡ all (λ k. leb k 63) (drop (i + 1) ks)
   kind-fits k = rw (drop-cons ks i 0 h, le-leb (getD ks i 0) 63 k, add-one)
-
-pub length-linesOf : (ls : List ℕ) → length (linesOf ls) ≡ length ls / 3
-length-linesOf ls = rw (lines-by ls) (length-map-upto (lineIn ls) (length ls / 3) 0)
 
 -- a line of the list is among its lines
 pub line-among : (ls : List ℕ) (j : ℕ) → j < length ls / 3 → List·Memᴰ (lineIn ls j) (linesOf ls)

@@ -1,12 +1,13 @@
 -- What the contracts of the public calls say together: two results that a contract allows coincide, a refusal changes nothing, an acceptance changes only what it counts, and both round trips.
-use Prim.Native.Nat.{ℕ, _*_, _/_, _≤_}
-use mathlib.Core.Path.{_≡_, ap, sym, _∙_}
-use mathlib.Core.Logic.{⊎-elim}
-use mathlib.Core.List.{List}
+use Prim.Native.Nat.{ℕ, _+_, _*_, _/_, _≤_, _<_}
+use mathlib.Core.Path.{_≡_, refl, ap, sym, _∙_}
+use mathlib.Core.Logic.{_⊎_, ⊎-elim, _↔_}
+use mathlib.Core.List.{List, [], _∷_, List·Memᴰ, List·Memᴰ·head, List·Memᴰ·tail}
 use lib.ListN.{length, take, drop}
-use Rattle.rules.specs.Sheet.{Bytes, Line, vertexCount, lineCount}
-use Rattle.rules.specs.Checks.{Limits, figureLimits, patchLimits, sheetVerdict}
+use Rattle.rules.specs.Sheet.{Bytes, Line, vertexCount, lineCount, lineAt}
+use Rattle.rules.specs.Checks.{Limits, figureLimits, patchLimits, sheetChecks, sheetVerdict, Accepted}
 use Rattle.rules.specs.Calls.{over, ReaderHanded, WriterHanded, reader, writer}
+use Rattle.rules.proofs.Accepted.{verdict-number, sheet-numbered, accepted-iff, tens}
 use Rattle.rules.proofs.ReadWrite.{reader-taken, reader-either, reader-writer, reader-untouched, writer-taken, writer-either, writer-reader, writer-untouched}
 use Rattle.sheet.specs.declared.fields.SheetLine.{SheetLine}
 use Rattle.sheet.specs.declared.fields.SheetCounts.{SheetCounts}
@@ -15,6 +16,21 @@ use Rattle.sheet.specs.declared.reader.ReadAnswer.{ReadAnswer}
 use Rattle.sheet.specs.declared.writer.WriteAnswer.{WriteAnswer}
 use Rattle.sheet.specs.Fields.{lineOf}
 use Rattle.sheet.specs.Answers.{asRead, asWritten}
+use Rattle.sheet.proofs.Words.{field-lt}
+
+-- a check answers 0 exactly where the sheet is as its checks want it, and one of its five numbers otherwise
+pub check-accepts : (L : Limits) (sheet : List ℕ) → (sheetVerdict L sheet ≡ 0) ↔ Accepted L sheet
+unfolding sheetVerdict
+check-accepts L sheet = accepted-iff L sheet
+
+pub check-numbers : (L : Limits) (sheet : List ℕ) → (sheetVerdict L sheet ≡ 0) ⊎ List·Memᴰ (sheetVerdict L sheet) ((L .ten + 1) ∷ (L .ten + 2) ∷ (L .ten + 3) ∷ (L .ten + 4) ∷ (L .ten + 5) ∷ [])
+unfolding sheetVerdict
+check-numbers L sheet = verdict-number (sheetChecks L sheet) (sheet-numbered L (tens (L .ten) (List·Memᴰ·head refl) (List·Memᴰ·tail (List·Memᴰ·head refl)) (List·Memᴰ·tail (List·Memᴰ·tail (List·Memᴰ·head refl))) (List·Memᴰ·tail (List·Memᴰ·tail (List·Memᴰ·tail (List·Memᴰ·head refl)))) (List·Memᴰ·tail (List·Memᴰ·tail (List·Memᴰ·tail (List·Memᴰ·tail (List·Memᴰ·head refl)))))) sheet)
+
+-- the numbers of a line that is read fit their bits
+pub line-at-small : (sheet : List ℕ) (i : ℕ) → (lineAt sheet i .type < 4) × (lineAt sheet i .first < 512) × (lineAt sheet i .second < 512)
+unfolding lineAt
+line-at-small sheet i = (field-lt sheet i 2, field-lt sheet (i + 2) 9, field-lt sheet (i + 11) 9)
 
 -- two results that the contract of `field` or `kind_at` allows
 pub field-once : (x r r′ : ℕ) → r ≡ x → r′ ≡ x → r ≡ r′

@@ -17,7 +17,8 @@ use Rattle.rules.specs.Checks.{Check, verdict, patchLimits, counted, lineChecks
 use Rattle.rules.specs.Calls.{over, linesOf, sheetOf, writerChecks, writerRefusals, WriterHanded, writer}
 use Rattle.rules.proofs.Accepted.{from-11, verdict-cons, verdict-first, verdict-rest, numbered-positive, counted-iff, lines-numbered}
 use Rattle.rules.proofs.Fields.{word-same, length-bits}
-use Rattle.rules.proofs.ReadWrite.{writer-taken, writer-either}
+use Rattle.rules.proofs.RoundTrip.{length-layout}
+use Rattle.rules.proofs.ReadWrite.{length-linesOf, writer-taken, writer-either}
 use Rattle.sheet.specs.declared.pen.Pen.{Pen}
 use Rattle.sheet.specs.declared.writer.WriteAnswer.{WriteAnswer}
 use Rattle.sheet.specs.Answers.{asWritten}
@@ -25,7 +26,7 @@ use Rattle.sheet.specs.Pen.{Penned, Able, Added}
 use Rattle.sheet.specs.Writing.{lineIn, KindsFit, LinesFit, listChecks}
 use Rattle.sheet.proofs.Stores.{over-at}
 use Rattle.sheet.proofs.Pens.{added-then}
-use Rattle.sheet.proofs.Lines.{length-linesOf, length-layout, line-among}
+use Rattle.sheet.proofs.Lines.{line-among}
 
 -- the checks on the two lists, one after the other
 module _ (ks ls : List ℕ) where

@@ -2,11 +2,11 @@
 use std::num::wrapping_add_u32;
 
 // A digest with one number more.
-pub fn mix(d: u64, x: u64) -> u64 {
+pub(crate) fn mix(d: u64, x: u64) -> u64 {
     ((d % 2147483647) * 48271 + x % 2147483647) % 2147483647
 }
 
-pub fn mix_words(d: u64, xs: &[u16]) -> u64 {
+pub(crate) fn mix_words(d: u64, xs: &[u16]) -> u64 {
     let mut r = d;
     let mut i = 0;
     while i < xs.len() {
@@ -16,7 +16,7 @@ pub fn mix_words(d: u64, xs: &[u16]) -> u64 {
     r
 }
 
-pub fn mix_bytes(d: u64, xs: &[u8]) -> u64 {
+pub(crate) fn mix_bytes(d: u64, xs: &[u8]) -> u64 {
     let mut r = d;
     let mut i = 0;
     while i < xs.len() {
@@ -39,7 +39,7 @@ fn long(x: u32) -> u64 {
 }
 
 // One more of a number.
-pub fn note(tally: &mut [u32], number: u16) {
+pub(crate) fn note(tally: &mut [u32], number: u16) {
     let k = number as usize;
     if k < tally.len() {
         tally[k] = wrapping_add_u32(tally[k], 1);
@@ -47,7 +47,7 @@ pub fn note(tally: &mut [u32], number: u16) {
 }
 
 // The digest of a part, then each number with its count.
-pub fn print_part(tally: &[u32], d: u64) {
+pub(crate) fn print_part(tally: &[u32], d: u64) {
     io::print_decimal(1, d);
     let mut i: u64 = 0;
     while i < 40 {

@@ -3,12 +3,12 @@ ghost use Prim.Native.Nat.{_+_, _<_};
 ghost use lib.ListN.{length};
 
 // A place in the sequence, beside what it is handed on with: a digest, or a count.
-pub struct Drawn {
+pub(crate) struct Drawn {
     pub seed: u32,
     pub digest: u64,
 }
 
-pub struct Counted {
+pub(crate) struct Counted {
     pub seed: u32,
     pub count: usize,
 }
@@ -20,19 +20,19 @@ struct Ends {
 }
 
 // The next number of the sequence.
-pub fn next(seed: u32) -> u32 {
+pub(crate) fn next(seed: u32) -> u32 {
     (((seed as u64) * 1103515245 + 12345) % 2147483648) as u32
 }
 
 // A number below `limit` out of the upper bits.
-pub fn below(seed: u32, limit: u16) -> u16
+pub(crate) fn below(seed: u32, limit: u16) -> u16
     requires { ⌜ 0 < limit ⌝ }
     ensures { λ r. ⌜ r < limit ⌝ }
 {
     (seed / 32768 % (limit as u32)) as u16
 }
 
-pub fn draw_kinds(kinds: &mut [u16], seed: u32) -> u32 {
+pub(crate) fn draw_kinds(kinds: &mut [u16], seed: u32) -> u32 {
     let mut s = seed;
     let mut i = 0;
     while i < kinds.len() {
@@ -68,7 +68,7 @@ fn set_line(lines: &mut [u16], k: usize, sort: u16, e: Ends)
 }
 
 // Lines among n vertices, ascending, as many as there are or as the list holds.
-pub fn draw_lines(lines: &mut [u16], n: u16, seed: u32) -> Counted {
+pub(crate) fn draw_lines(lines: &mut [u16], n: u16, seed: u32) -> Counted {
     let mut s = seed;
     let mut e = Ends {
         first: 0,
@@ -94,7 +94,7 @@ pub fn draw_lines(lines: &mut [u16], n: u16, seed: u32) -> Counted {
     }
 }
 
-pub fn draw_bytes(bytes: &mut [u8], seed: u32) -> u32 {
+pub(crate) fn draw_bytes(bytes: &mut [u8], seed: u32) -> u32 {
     let mut s = seed;
     let mut i = 0;
     while i < bytes.len() {

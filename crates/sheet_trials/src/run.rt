@@ -191,7 +191,7 @@ fn lends(sheet: &[u8], tally: &mut [u32], d: u64) -> u64 {
 }
 
 // A sheet, and all damage to it.
-pub fn damage(sheet: &mut [u8], tally: &mut [u32], d: u64) -> u64 {
+pub(crate) fn damage(sheet: &mut [u8], tally: &mut [u32], d: u64) -> u64 {
     let d1 = trial(sheet, 40, 200, tally, d);
     let d2 = flips(sheet, 0, tally, d1);
     let d3 = cuts(sheet, 0, tally, d2);
@@ -218,7 +218,7 @@ fn made(kinds: &[u16], k: usize, lines: &[u16], l: usize, bytes: &mut [u8]) -> u
 }
 
 // A drawn sheet, and all damage to it.
-pub fn one_drawn(seed: u32, tally: &mut [u32], d: u64) -> Drawn {
+pub(crate) fn one_drawn(seed: u32, tally: &mut [u32], d: u64) -> Drawn {
     let mut kinds = [0u16; 20];
     let mut lines = [0u16; 120];
     let mut bytes = [0u8; 128];
@@ -242,8 +242,8 @@ fn put_counts(bytes: &mut [u8], n: u8, m: u8)
     bytes[2] = m * 4 + bytes[2] % 4;
 }
 
-// Random bytes under counts that give their length, or a byte less.
-pub fn one_random(seed: u32, tally: &mut [u32], d: u64) -> Drawn {
+// Random bytes under counts that give their length, or a byte more.
+pub(crate) fn one_random(seed: u32, tally: &mut [u32], d: u64) -> Drawn {
     let mut bytes = [0u8; 64];
     let s = next(seed);
     let t = next(s);
@@ -261,7 +261,7 @@ pub fn one_random(seed: u32, tally: &mut [u32], d: u64) -> Drawn {
 }
 
 // Random bytes, 0 to 39 of them.
-pub fn one_noise(seed: u32, tally: &mut [u32], d: u64) -> Drawn {
+pub(crate) fn one_noise(seed: u32, tally: &mut [u32], d: u64) -> Drawn {
     let mut bytes = [0u8; 64];
     let s = next(seed);
     let after = draw_bytes(&mut bytes, s);
@@ -287,7 +287,7 @@ fn less(count: usize, cut: usize) -> usize {
 }
 
 // Drawn lists with one number of each changed, the line list one shorter now and then, and fewer bytes lent than are needed now and then.
-pub fn one_written(seed: u32, tally: &mut [u32], d: u64) -> Drawn {
+pub(crate) fn one_written(seed: u32, tally: &mut [u32], d: u64) -> Drawn {
     let mut kinds = [0u16; 20];
     let mut lines = [0u16; 120];
     let mut out = [171u8; 128];
@@ -309,7 +309,7 @@ pub fn one_written(seed: u32, tally: &mut [u32], d: u64) -> Drawn {
 }
 
 // The longest sheet, and some of the damage to it.
-pub fn one_large(seed: u32, tally: &mut [u32], d: u64) -> u64 {
+pub(crate) fn one_large(seed: u32, tally: &mut [u32], d: u64) -> u64 {
     let mut kinds = [0u16; 512];
     let mut lines = [0u16; 6144];
     let mut bytes = [0u8; 5507];

@@ -16,7 +16,7 @@ abbrev Inv-loop : tie.InvT-loop
 Inv-loop sheet n kinds₀ i₀ kinds i = (i ≤ n) × (length kinds ≡ length kinds₀) × (kinds ≡ map (λ k. field sheet (22 + 6 * k) 6) (upto i 0) ++ drop i kinds₀)
 
 abbrev μ-loop : tie.MeasureT-loop
-μ-loop sheet n kinds₀ i₀ kinds i = n - i
+μ-loop sheet n kinds₀ i₀ kinds i = n + 1 - i
 
 loop-holds : tie.Need-loop-holds Inv-loop μ-loop
 loop-holds c = (search needs, refl, refl)

@@ -7,7 +7,8 @@ use lib.Seq.{take-all, length-take-le}
 use lib.ListN.{length, getD, take}
 use Rattle.rules.specs.Sheet.{kindBits}
 use Rattle.sheet.specs.Pen.{Added}
-use Rattle.sheet.proofs.Lines.{kind-next, length-kindBits}
+use Rattle.sheet.proofs.Lines.{kind-next}
+use Rattle.rules.proofs.RoundTrip.{length-kinds}
 use Rattle.sheet.proofs.Pens.{nothing, added-then}
 use Rattle.sheet.proofs.writer.write_kinds.Statement.{statement}
 use Rattle.sheet.proofs.writer.write_kinds.Tie as tie
@@ -36,7 +37,7 @@ put-requires c κs = let l = c .before .before .before .loop in
     let k = c .before .before .before .before .before .before .args .kinds .now in
     let fit : getD k (l .i) 0 ≤ 63 = c .before .before .before .before .before .before .pre .1 (l .i) (omega arith) in
     let few : length (take (l .i) k) ≡ l .i = length-take-le (l .i) k (omega arith) in
-    (l .inv .1, omega arith, omega arith, record { low = l .inv .2 .low; room = omega (arith, l .inv .2 .along, l .inv .2 .same, length-kindBits (take (l .i) k), c .before .before .before .before .before .before .pre .2 .room) })
+    (l .inv .1, omega arith, omega arith, record { low = l .inv .2 .low; room = omega (arith, l .inv .2 .along, l .inv .2 .same, length-kinds (take (l .i) k), c .before .before .before .before .before .before .pre .2 .room) })
 
 add-i : tie.Need-add-i Inv-loop μ-loop
 add-i c = search needs

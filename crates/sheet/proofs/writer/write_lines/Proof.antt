@@ -11,7 +11,8 @@ use Rattle.rules.specs.Sheet.{lineBits}
 use Rattle.sheet.specs.Writing.{lineIn}
 use Rattle.sheet.specs.Pen.{Added}
 use Rattle.sheet.specs.Fields.{lineOf}
-use Rattle.sheet.proofs.Lines.{lines-by, line-next, fits-read, length-lineBits}
+use Rattle.sheet.proofs.Lines.{lines-by, line-next, fits-read}
+use Rattle.rules.proofs.RoundTrip.{length-lines}
 use Rattle.sheet.proofs.Pens.{nothing, added-then}
 use Rattle.sheet.proofs.writer.write_lines.Statement.{statement}
 use Rattle.sheet.proofs.writer.write_lines.Tie as tie
@@ -35,7 +36,7 @@ line-word-requires c κs = fits-read (lineOf (c .line-in .result)) (lineIn (c .b
 put-requires : tie.Need-put-requires Inv-loop μ-loop
 put-requires c κs = let l = c .before .before .before .before .loop in
     let g = lineIn (c .before .before .before .before .before .before .before .args .lines .now) in
-    (l .inv .2, omega arith, c .before .line-word .ensures .1, record { low = l .inv .3 .low; room = omega (arith, l .inv .3 .along, l .inv .3 .same, length-lineBits (map g (upto (l .j) 0)), length-map-upto g (l .j) 0, c .before .before .before .before .before .before .before .pre .2 .room) })
+    (l .inv .2, omega arith, c .before .line-word .ensures .1, record { low = l .inv .3 .low; room = omega (arith, l .inv .3 .along, l .inv .3 .same, length-lines (map g (upto (l .j) 0)), length-map-upto g (l .j) 0, c .before .before .before .before .before .before .before .pre .2 .room) })
 
 add-j : tie.Need-add-j Inv-loop μ-loop
 add-j c = search needs

@@ -6,7 +6,7 @@ use lib.Pow.{pow-pos}
 use lib.ListN.{length, length-append}
 use Rattle.rules.proofs.Fields.{length-bits}
 use Rattle.sheet.proofs.Writing.{able-after, laid-out, length-laid, finished}
-use Rattle.sheet.proofs.Lines.{length-kindBits}
+use Rattle.rules.proofs.RoundTrip.{length-kinds}
 use Rattle.sheet.proofs.Pens.{added-then}
 use Rattle.sheet.proofs.writer.write_sheet.Statement.{statement}
 use Rattle.sheet.proofs.writer.write_sheet.Tie as tie
@@ -29,7 +29,7 @@ write-kinds-requires c κs = let a = c .before .before .before .before .before .
 
 write-lines-requires : tie.Need-write-lines-requires
 write-lines-requires c κs = let a = c .before .before .before .before .before .before .before .before .before .before .before .before .before .before .before .before .args in
-    (c .before .before .before .write-kinds .ensures .0, c .before .before .before .before .before .before .before .before .before .before .before .before .before .before .before .before .pre .3, able-after (added-then (added-then (c .before .before .before .before .before .before .before .before .before .before .before .put .ensures .1) (c .before .before .before .before .before .before .before .put2 .ensures .1)) (c .before .before .before .write-kinds .ensures .1)) (20 * (length (a .lines .now) / 3)) (simp (length-append, length-bits, length-kindBits) (omega (arith, c .before .before .before .before .before .before .before .before .before .before .before .before .before .before .before .before .pre .4))))
+    (c .before .before .before .write-kinds .ensures .0, c .before .before .before .before .before .before .before .before .before .before .before .before .before .before .before .before .pre .3, able-after (added-then (added-then (c .before .before .before .before .before .before .before .before .before .before .before .put .ensures .1) (c .before .before .before .before .before .before .before .put2 .ensures .1)) (c .before .before .before .write-kinds .ensures .1)) (20 * (length (a .lines .now) / 3)) (simp (length-append, length-bits, length-kinds) (omega (arith, c .before .before .before .before .before .before .before .before .before .before .before .before .before .before .before .before .pre .4))))
 
 sub-put : tie.Need-sub-put
 sub-put c = search needs

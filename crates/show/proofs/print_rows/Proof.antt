@@ -2,11 +2,11 @@ use borrow.Author.Needs.{needs}
 use lib.ListN.{length}
 use native.Mathlib.Omega.{arith}
 use Prim.Native.Nat.{_≤_, _-_}
-use Rattle.find_figure.proofs.print_rows.Statement.{statement}
-use Rattle.find_figure.proofs.print_rows.Tie as tie
-use Rattle.find_figure.proofs.print_rows.Reads as reads
-use Rattle.find_figure.proofs.print_rows.Lts as lts
-use Rattle.find_figure.proofs.print_row.Reads as print-row-reads
+use Rattle.show.proofs.print_rows.Statement.{statement}
+use Rattle.show.proofs.print_rows.Tie as tie
+use Rattle.show.proofs.print_rows.Reads as reads
+use Rattle.show.proofs.print_rows.Lts as lts
+use Rattle.show.proofs.print_row.Reads as print-row-reads
 
 abbrev Inv-loop : tie.InvT-loop
 Inv-loop list rows n left₀ at₀ left at = at ≤ length list

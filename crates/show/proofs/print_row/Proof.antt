@@ -2,12 +2,12 @@ use borrow.Author.Needs.{needs}
 use lib.ListN.{length}
 use native.Mathlib.Omega.{arith}
 use Prim.Native.Nat.{_≤_, _-_}
-use Rattle.find_figure.proofs.print_row.Statement.{statement}
-use Rattle.find_figure.proofs.print_row.Tie as tie
-use Rattle.find_figure.proofs.print_row.Reads as reads
-use Rattle.find_figure.proofs.print_row.Lts as lts
-use Rattle.find_figure.proofs.print.Reads as print-reads
-use Rattle.find_figure.proofs.wide.Reads as wide-reads
+use Rattle.show.proofs.print_row.Statement.{statement}
+use Rattle.show.proofs.print_row.Tie as tie
+use Rattle.show.proofs.print_row.Reads as reads
+use Rattle.show.proofs.print_row.Lts as lts
+use Rattle.show.proofs.print.Reads as print-reads
+use Rattle.show.proofs.wide.Reads as wide-reads
 
 abbrev Inv-loop : tie.InvT-loop
 Inv-loop row i₀ i = i ≤ length row

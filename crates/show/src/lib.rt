@@ -1,0 +1,73 @@
+// What the programs do: the places of the figure in figure.sheet in the patch in patch.sheet, printed. Thin over the proved call `find`.
+ghost use Rattle.io.specs.Counts.{Counts};
+use find::find;
+use libc::STDOUT_FILENO;
+use sheet::fields::counts;
+
+// What a file holds, up to 5,508 bytes; a file that cannot be opened counts as empty.
+fn read_sheet(path: &[u8], bytes: &mut [u8; 5508]) -> usize
+    ensures { λ r. ⌜ Counts r (now (bytes .exit)) ⌝ }
+{
+    let fd = os::open_read(path);
+    if fd < 0 {
+        return 0;
+    }
+    let n = io::read_full(fd, bytes);
+    libc::close(fd);
+    n
+}
+
+// A number, and what stands after it.
+fn print(n: u64, after: u8) {
+    io::print_decimal(STDOUT_FILENO, n);
+    io::write_all(STDOUT_FILENO, &[after]);
+}
+
+fn wide(v: u16) -> u64 {
+    v as u64
+}
+
+// One row on a line: n entries, single spaces between them.
+fn print_row(row: &[u16]) {
+    let mut i = 0;
+    while i < row.len() {
+        let v = wide(row[i]);
+        i += 1;
+        if i < row.len() {
+            print(v, b' ');
+        } else {
+            print(v, b'\n');
+        }
+    }
+}
+
+// The first rows of a list, of n entries each.
+fn print_rows(list: &[u16], rows: usize, n: usize) {
+    let mut left = rows;
+    let mut at = 0;
+    while 0 < left {
+        left -= 1;
+        if list.len() - at < n {
+            return;
+        }
+        let next = at + n;
+        print_row(&list[at..next]);
+        at = next;
+    }
+}
+
+// Number, rows and tries on one line, then one line a row.
+pub fn find_and_print() {
+    let mut figure = [0u8; 5508];
+    let mut patch = [0u8; 5508];
+    let n = read_sheet(b"figure.sheet", &mut figure);
+    let m = read_sheet(b"patch.sheet", &mut patch);
+    let mut memory = [0u16; 22528];
+    let mut list = [0u16; 4096];
+    let found = find(&figure[..n], &patch[..m], &mut memory, &mut list, 1000000);
+    print(found.number as u64, b' ');
+    print(found.rows as u64, b' ');
+    print(found.tries as u64, b'\n');
+    let c = counts(&figure[..n]);
+    print_rows(&list, found.rows, c.vertices as usize);
+}
