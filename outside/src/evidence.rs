@@ -27,13 +27,14 @@ pub struct Case<'a> {
 }
 
 pub struct Evidence<'a> {
-    calls: &'a dyn Calls,
+    calls: &'a (dyn Calls + Sync),
     random: Random,
     /// Random numbers from which dirty lent memory is copied.
     dirt: Vec<u16>,
     pub faults: BTreeMap<&'static str, u64>,
     pub counts: BTreeMap<(&'static str, u16), u64>,
     pub notes: BTreeMap<&'static str, u64>,
+    pub largest: BTreeMap<&'static str, u64>,
 }
 
 fn hex(bytes: &[u8]) -> String {
@@ -41,10 +42,10 @@ fn hex(bytes: &[u8]) -> String {
 }
 
 impl<'a> Evidence<'a> {
-    pub fn new(calls: &'a dyn Calls, seed: u64) -> Evidence<'a> {
+    pub fn new(calls: &'a (dyn Calls + Sync), seed: u64) -> Evidence<'a> {
         let mut random = Random::new(seed);
         let dirt = (0..1 << 18).map(|_| random.next() as u16).collect();
-        Evidence { calls, random, dirt, faults: BTreeMap::new(), counts: BTreeMap::new(), notes: BTreeMap::new() }
+        Evidence { calls, random, dirt, faults: BTreeMap::new(), counts: BTreeMap::new(), notes: BTreeMap::new(), largest: BTreeMap::new() }
     }
 
     /// Dirty 16-bit numbers, as a caller may lend them.
@@ -134,10 +135,10 @@ impl<'a> Evidence<'a> {
         let (f, p) = (encode(&figure), encode(&patch));
         let part = if places.is_some() { "random" } else { "random, model alone" };
         let (found, list) = self.compare(part, &Case { figure: &f, patch: &p, memory, list, allowance });
-        self.most("largest patch", patch.n() as u64);
-        self.most("most patch lines", patch.lines.len() as u64);
-        self.most("largest figure", figure.n() as u64);
-        self.most("most figure lines", figure.lines.len() as u64);
+        self.most("patch vertices", patch.n() as u64);
+        self.most("patch lines", patch.lines.len() as u64);
+        self.most("figure vertices", figure.n() as u64);
+        self.most("figure lines", figure.lines.len() as u64);
         match places {
             Some(places) => self.against_places(places, &plan.order, found, &list, room),
             None => return false,
@@ -145,8 +146,24 @@ impl<'a> Evidence<'a> {
         true
     }
 
+    /// What another worker found, added to this one's.
+    pub fn join(&mut self, other: Evidence) {
+        for (&key, count) in &other.counts {
+            *self.counts.entry(key).or_insert(0) += count;
+        }
+        for (&what, count) in &other.faults {
+            *self.faults.entry(what).or_insert(0) += count;
+        }
+        for (&what, count) in &other.notes {
+            self.note(what, *count);
+        }
+        for (&what, value) in &other.largest {
+            self.most(what, *value);
+        }
+    }
+
     fn most(&mut self, what: &'static str, value: u64) {
-        let held = self.notes.entry(what).or_insert(0);
+        let held = self.largest.entry(what).or_insert(0);
         *held = value.max(*held);
     }
 
@@ -443,7 +460,8 @@ fn small_patch(random: &mut Random) -> Graph {
 /// A figure and a patch of one of twenty classes, from tiny to the limits of the table.
 pub fn draw(random: &mut Random, class: usize) -> (Graph, Graph) {
     match class {
-        0..=9 => tiny(random),
+        0..=5 => tiny(random),
+        6..=9 => lifted(random),
         10..=14 => medium(random),
         15..=16 => racks(random),
         17 => large(random),
@@ -461,6 +479,18 @@ fn tiny(random: &mut Random) -> (Graph, Graph) {
     let n = random.between(1, 10);
     let m = random.below(21);
     (figure, graphs::plain(random, n, m, &pool))
+}
+
+fn lifted(random: &mut Random) -> (Graph, Graph) {
+    let n = random.between(3, 9);
+    let size = if random.chance(60) { 60 } else { random.between(2, n) };
+    let pool = graphs::pool(random, size);
+    let m = n - 1 + random.below(4);
+    let figure = graphs::connected(random, n, m, &pool);
+    let copies = random.between(2, 5);
+    let percent = random.between(25, 70);
+    let patch = graphs::lifted(random, &figure, copies, percent);
+    (figure, patch)
 }
 
 fn medium(random: &mut Random) -> (Graph, Graph) {

@@ -153,3 +153,27 @@ pub fn grid(random: &mut Random, width: usize, height: usize, pool: &[u16]) -> G
     }
     of(kinds, &pairs, |_| 1)
 }
+
+/// A patch made of copies of a figure's vertices, each figure line drawn between some of the copies of
+/// its ends: full of near misses, so that every pass of the refinement and every failing set counts.
+pub fn lifted(random: &mut Random, figure: &Graph, copies: usize, percent: usize) -> Graph {
+    let mut kinds = Vec::new();
+    let mut of_vertex = Vec::new();
+    for &kind in &figure.kinds {
+        let count = random.between(1, copies);
+        of_vertex.push(kinds.len()..kinds.len() + count);
+        kinds.extend(vec![kind; count]);
+    }
+    let mut pairs = BTreeSet::new();
+    for &(_, a, b) in &figure.lines {
+        for v in of_vertex[a as usize].clone() {
+            for w in of_vertex[b as usize].clone() {
+                if random.chance(percent) {
+                    pairs.insert(pair(v, w));
+                }
+            }
+        }
+    }
+    let patch = of(kinds, &pairs, |_| random.below(3) as u16);
+    mixed(random, &patch)
+}

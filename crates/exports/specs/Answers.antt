@@ -2,8 +2,13 @@
 use Prim.Native.Nat.{ℕ}
 use mathlib.Core.List.{List}
 use Rattle.rules.specs.Calls as calls
+use Rattle.exports.specs.declared.Found.{Found}
 use Rattle.exports.specs.declared.Read.{Read}
 use Rattle.exports.specs.declared.Written.{Written}
+
+-- what the search returned, with the list and the working memory afterwards
+abbrev pub asSearched : Found → (list memory : List ℕ) → calls.Searched
+asSearched r list memory = record { number = r .number; rows = r .rows; tries = r .tries; list = list; memory = memory }
 
 -- what the reader returned, with the two lists afterwards
 abbrev pub asRead : Read → (kindList lineList : List ℕ) → calls.Read

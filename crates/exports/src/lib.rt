@@ -1,10 +1,19 @@
 // The library's calls for C and for Rust, under their plain names. Each is the proved function of
 // the crate below it, with its answer laid out as in C.
 ghost use mathlib.Core.Path.{_≡_};
-ghost use Rattle.rules.specs.Calls.{reader, writer};
-ghost use Rattle.exports.specs.Answers.{asRead, asWritten};
+ghost use Rattle.rules.specs.Calls.{search, reader, writer};
+ghost use Rattle.exports.specs.Answers.{asSearched, asRead, asWritten};
+use find::find;
 use sheet::reader::read;
 use sheet::writer::write;
+
+// What the search returns: its number, the rows written and the tries spent.
+#[repr(C)]
+pub struct Found {
+    pub number: u16,
+    pub rows: usize,
+    pub tries: u32,
+}
 
 // What the reader returns: its number and the counts n and m.
 #[repr(C)]
@@ -19,6 +28,24 @@ pub struct Read {
 pub struct Written {
     pub number: u16,
     pub count: usize,
+}
+
+#[no_mangle]
+pub extern "C" fn gelquorist_find(
+    figure: &[u8],
+    patch: &[u8],
+    memory: &mut [u16],
+    list: &mut [u16],
+    allowance: u32,
+) -> Found
+    ensures { λ r. ⌜ asSearched r (now (list .exit)) (now (memory .exit)) ≡ search (now (figure .entry)) (now (patch .entry)) (now (memory .entry)) (now (list .entry)) allowance ⌝ }
+{
+    let answer = find(figure, patch, memory, list, allowance);
+    Found {
+        number: answer.number,
+        rows: answer.rows,
+        tries: answer.tries,
+    }
 }
 
 #[no_mangle]

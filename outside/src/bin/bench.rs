@@ -133,35 +133,57 @@ fn text(case: &Case, index: usize) -> String {
     out
 }
 
-/// The median time of one call in nanoseconds, and its answer.
-fn measure(calls: &dyn Calls, figure: &[u8], patch: &[u8], list: usize, allowance: u32) -> (f64, Found) {
-    let (mut memory, mut list) = (vec![0; MEMORY], vec![0; list]);
-    let mut call = || hold(calls.find(hold(figure), hold(patch), &mut memory, &mut list, allowance));
-    let found = call();
-    let start = Instant::now();
-    call();
-    let once = start.elapsed().as_nanos().max(1);
-    let turns = (100_000 / once).clamp(1, 200) as u32;
-    let batches = if once > 20_000_000 { 5 } else { 31 };
-    let mut times: Vec<f64> = (0..batches)
-        .map(|_| {
-            let start = Instant::now();
-            for _ in 0..turns {
-                call();
-            }
-            start.elapsed().as_nanos() as f64 / turns as f64
-        })
-        .collect();
-    times.sort_by(|a, b| a.partial_cmp(b).unwrap());
-    (times[times.len() / 2], found)
+/// What is lent, and what is asked.
+struct Asked<'a> {
+    figure: &'a [u8],
+    patch: &'a [u8],
+    allowance: u32,
+    memory: Vec<u16>,
+    list: Vec<u16>,
+}
+
+impl Asked<'_> {
+    fn call(&mut self, calls: &dyn Calls) -> Found {
+        hold(calls.find(hold(self.figure), hold(self.patch), &mut self.memory, &mut self.list, self.allowance))
+    }
+
+    /// The mean time of some calls, in nanoseconds.
+    fn batch(&mut self, calls: &dyn Calls, turns: u32) -> f64 {
+        let start = Instant::now();
+        for _ in 0..turns {
+            self.call(calls);
+        }
+        start.elapsed().as_nanos() as f64 / turns as f64
+    }
+}
+
+/// The median time of one call in nanoseconds and its answer, for each implementation. They take
+/// turns, so that what else the machine does falls on all alike.
+fn measure(figure: &[u8], patch: &[u8], allowance: u32) -> Vec<(&'static str, f64, Found)> {
+    let mut asked = Asked { figure, patch, allowance, memory: vec![0; MEMORY], list: vec![0; LIST] };
+    let all = implementations();
+    let answers: Vec<Found> = all.iter().map(|calls| asked.call(&**calls)).collect();
+    let once = all.iter().map(|calls| asked.batch(&**calls, 1)).fold(1.0, f64::max);
+    let turns = (100_000.0 / once).max(1.0).min(200.0) as u32;
+    let batches = if once > 20e6 { 5 } else { 51 };
+    let mut times = vec![Vec::new(); all.len()];
+    for _ in 0..batches {
+        for (calls, of) in all.iter().zip(&mut times) {
+            of.push(asked.batch(&**calls, turns));
+        }
+    }
+    let median = |mut of: Vec<f64>| {
+        of.sort_by(|a, b| a.partial_cmp(b).unwrap());
+        of[of.len() / 2]
+    };
+    all.iter().zip(times).zip(answers).map(|((calls, of), found)| (calls.name(), median(of), found)).collect()
 }
 
 fn times() {
     for (index, case) in cases().iter().enumerate() {
         let (f, p) = (encode(&case.figure), encode(&case.patch));
-        for calls in implementations() {
-            let (ns, found) = measure(&*calls, &f, &p, LIST, u32::MAX);
-            println!("{} {index} {} {ns:.0} {} {}", case.group, calls.name(), found.rows, found.tries);
+        for (name, ns, found) in measure(&f, &p, u32::MAX) {
+            println!("{} {index} {name} {ns:.0} {} {}", case.group, found.rows, found.tries);
         }
     }
 }
@@ -184,9 +206,8 @@ fn sizes() {
 
 fn size(what: &str, value: usize, figure: &Graph, patch: &Graph, allowance: u32) {
     let (f, p) = (encode(figure), encode(patch));
-    for calls in implementations() {
-        let (ns, found) = measure(&*calls, &f, &p, LIST, allowance);
-        println!("{what} {value} {} {ns:.0} {} {}", calls.name(), found.rows, found.tries);
+    for (name, ns, found) in measure(&f, &p, allowance) {
+        println!("{what} {value} {name} {ns:.0} {} {}", found.rows, found.tries);
     }
 }
 

@@ -13,7 +13,7 @@ use std::time::Instant;
 mod library;
 
 #[cfg(library)]
-fn asked(name: &str) -> Option<Box<dyn Calls>> {
+fn asked(name: &str) -> Option<Box<dyn Calls + Sync>> {
     match name {
         "plain" => Some(Box::new(Plain)),
         "library" => Some(Box::new(library::Library)),
@@ -22,7 +22,7 @@ fn asked(name: &str) -> Option<Box<dyn Calls>> {
 }
 
 #[cfg(not(library))]
-fn asked(name: &str) -> Option<Box<dyn Calls>> {
+fn asked(name: &str) -> Option<Box<dyn Calls + Sync>> {
     match name {
         "plain" => Some(Box::new(Plain)),
         _ => None,
@@ -43,6 +43,18 @@ fn report(evidence: &Evidence) {
     for (what, count) in &evidence.notes {
         println!("{what}: {count}");
     }
+    let largest: Vec<String> = evidence.largest.iter().map(|(what, value)| format!("{what} {value}")).collect();
+    println!("most: {}", largest.join(", "));
+}
+
+/// One worker's share of every part.
+fn share(calls: &(dyn Calls + Sync), seed: u64, shares: [u64; 3]) -> Evidence<'_> {
+    let mut evidence = Evidence::new(calls, seed);
+    evidence.random_cases(shares[0]);
+    evidence.damaged_cases(shares[1]);
+    evidence.two_calls(shares[2]);
+    evidence.round_trips(shares[2]);
+    evidence
 }
 
 fn main() {
@@ -57,27 +69,24 @@ fn main() {
         }
     };
     let seed = number(1, 20_261_115);
-    println!("evidence: {} with seed {seed}", calls.name());
-    let mut evidence = Evidence::new(&*calls, seed);
-    let mut clock = Instant::now();
-    let mut lap = |what: &str| {
-        println!("  {what}: {:.1} s", clock.elapsed().as_secs_f64());
-        clock = Instant::now();
-    };
-    evidence.benches();
-    evidence.lengths();
-    lap("benches and lengths");
-    evidence.random_cases(number(2, 20_000));
-    lap("random cases");
-    evidence.damaged_cases(number(3, 20_000));
-    lap("damaged sheets");
-    evidence.two_calls(number(4, 2_000));
-    evidence.round_trips(number(4, 2_000));
-    lap("two calls and round trips");
+    let halves = [number(2, 20_000), number(3, 20_000), number(4, 2_000)].map(|count| (count + 1) / 2);
+    println!("evidence: {}, two workers, seeds {seed} and {}", calls.name(), seed + 1);
+    let clock = Instant::now();
+    let calls = &*calls;
+    // Always two workers, so that a seed gives the same cases on every machine.
+    let (mut evidence, other) = std::thread::scope(|scope| {
+        let other = scope.spawn(|| share(calls, seed + 1, halves));
+        let mut own = Evidence::new(calls, seed);
+        own.benches();
+        own.lengths();
+        own.join(share(calls, seed, halves));
+        (own, other.join().unwrap())
+    });
+    evidence.join(other);
     report(&evidence);
     for (what, count) in &evidence.faults {
         println!("disagreements of {what}: {count}");
     }
-    println!("{} disagreements", evidence.faults.values().sum::<u64>());
+    println!("{} disagreements, {:.1} s", evidence.faults.values().sum::<u64>(), clock.elapsed().as_secs_f64());
     std::process::exit(if evidence.faults.is_empty() { 0 } else { 1 });
 }
