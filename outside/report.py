@@ -64,28 +64,38 @@ def table(paths):
 COLOURS = {"library": "#b5332e", "plain": "#2e5fb5"}
 
 
-def panel(points, left, title, unit):
-    """One panel: points by name, both axes by powers of ten."""
+def even(values):
+    """Marks of an axis from 0 by even steps, and where a value lies on it, from 0 to 1."""
+    most = max(values)
+    power = 10 ** math.floor(math.log10(most))
+    step = next(k * power for k in (0.2, 0.5, 1, 2) if most / (k * power) <= 6)
+    return [step * k for k in range(int(most / step) + 1)], lambda value: value / (1.05 * most)
+
+
+def powers(values):
+    """The same by powers of ten."""
+    low, high = math.floor(math.log10(min(values))), math.ceil(math.log10(max(values)))
+    return [10 ** k for k in range(low, high + 1)], lambda value: (math.log10(value) - low) / (high - low)
+
+
+def panel(points, left, title, unit, scale):
     width, height, top = 340, 260, 40
-    xs = [x for series in points.values() for x, _ in series]
-    ys = [y for series in points.values() for _, y in series]
-    x0, x1 = math.log10(min(xs)), math.log10(max(xs))
-    y0, y1 = math.floor(math.log10(min(ys))), math.ceil(math.log10(max(ys)))
-    at = lambda x, y: (left + width * (math.log10(x) - x0) / (x1 - x0), top + height * (1 - (math.log10(y) - y0) / (y1 - y0)))
+    x_marks, x_at = scale([x for series in points.values() for x, _ in series])
+    y_marks, y_at = scale([y for series in points.values() for _, y in series])
+    across = lambda x: left + width * x_at(x)
+    up = lambda y: top + height * (1 - y_at(y))
     out = [f'<rect x="{left}" y="{top}" width="{width}" height="{height}" fill="none" stroke="#888"/>',
            f'<text x="{left + width / 2}" y="24" text-anchor="middle" font-weight="bold">{title}</text>',
            f'<text x="{left + width / 2}" y="{top + height + 36}" text-anchor="middle">{unit}</text>']
-    for power in range(y0, y1 + 1):
-        y = at(10 ** x0, 10 ** power)[1]
-        out.append(f'<line x1="{left}" x2="{left + width}" y1="{y:.1f}" y2="{y:.1f}" stroke="#ddd"/>')
-        out.append(f'<text x="{left - 6}" y="{y + 4:.1f}" text-anchor="end">{short(10 ** power)}</text>')
-    for power in range(math.ceil(x0), math.floor(x1) + 1):
-        x = at(10 ** power, 10 ** y0)[0]
-        out.append(f'<line x1="{x:.1f}" x2="{x:.1f}" y1="{top}" y2="{top + height}" stroke="#ddd"/>')
-        out.append(f'<text x="{x:.1f}" y="{top + height + 16}" text-anchor="middle">{10 ** power:,}</text>')
+    for mark in y_marks:
+        out.append(f'<line x1="{left}" x2="{left + width}" y1="{up(mark):.1f}" y2="{up(mark):.1f}" stroke="#ddd"/>')
+        out.append(f'<text x="{left - 6}" y="{up(mark) + 4:.1f}" text-anchor="end">{short(mark) if mark else 0}</text>')
+    for mark in x_marks:
+        out.append(f'<line x1="{across(mark):.1f}" x2="{across(mark):.1f}" y1="{top}" y2="{top + height}" stroke="#ddd"/>')
+        out.append(f'<text x="{across(mark):.1f}" y="{top + height + 16}" text-anchor="middle">{mark:,.0f}</text>')
     for i, (name, series) in enumerate(points.items()):
         colour = COLOURS.get(name, "#555")
-        path = " ".join(f"{x:.1f},{y:.1f}" for x, y in (at(*p) for p in series))
+        path = " ".join(f"{across(x):.1f},{up(y):.1f}" for x, y in series)
         out.append(f'<polyline points="{path}" fill="none" stroke="{colour}" stroke-width="2"/>')
         out.append(f'<text x="{left + 10}" y="{top + 18 + 16 * i}" fill="{colour}">{name}</text>')
     return out
@@ -94,12 +104,12 @@ def panel(points, left, title, unit):
 def plot(sizes, svg):
     lines, tries = {}, {}
     for what, value, name, ns, _, spent in rows([sizes]):
-        if what == "lines" and value > 0:
+        if what == "lines":
             lines.setdefault(name, []).append((value, ns))
         elif what == "tries":
             tries.setdefault(name, []).append((spent, ns))
-    body = panel(lines, 70, "An easy call, by patch lines", "lines of a patch of 512 vertices")
-    body += panel(tries, 500, "A hard call, by tries", "tries")
+    body = panel(lines, 70, "An easy call, by patch lines", "lines of a patch of 512 vertices", even)
+    body += panel(tries, 500, "A hard call, by tries", "tries", powers)
     text = ['<svg xmlns="http://www.w3.org/2000/svg" width="870" height="350" font-family="sans-serif" font-size="12">',
             '<rect width="870" height="350" fill="white"/>', *body, "</svg>"]
     open(svg, "w", encoding="utf-8").write("\n".join(text) + "\n")

@@ -345,7 +345,7 @@ impl<'a> Evidence<'a> {
         }
     }
 
-    /// Document 01's benches, each with what that page says of it.
+    /// Document 01's benches, each with what that page says of it, and one of our own.
     pub fn benches(&mut self) {
         for bench in benches() {
             let n = check::figure(&bench.figure).map(|g| g.n()).unwrap_or(1);
@@ -386,6 +386,27 @@ struct Bench {
     rows: Vec<u16>,
 }
 
+/// Not of document 01: only the third pass empties a set (that of figure vertex 3), so no try is made;
+/// after two passes there would be three.
+fn third_pass() -> Bench {
+    let figure = graph(&[0, 1, 2, 3, 4, 5], &[(0, 1), (0, 2), (1, 3), (1, 4), (2, 3), (2, 5)]);
+    let patch = graph(
+        &[0, 1, 1, 2, 2, 3, 3, 4, 5, 9, 9],
+        &[(0, 1), (0, 2), (0, 3), (0, 4), (1, 5), (1, 7), (2, 6), (2, 9), (3, 6), (3, 8), (4, 5), (4, 10)],
+    );
+    Bench {
+        name: "third pass",
+        figure: encode(&figure),
+        patch: encode(&patch),
+        memory: MEMORY,
+        room: 9,
+        allowance: 99,
+        number: 0,
+        tries: 0,
+        rows: Vec::new(),
+    }
+}
+
 fn benches() -> Vec<Bench> {
     let ample = |name, figure: Graph, patch: Graph, number, tries, rows: &[u16]| Bench {
         name, figure: encode(&figure), patch: encode(&patch), memory: MEMORY, room: 100, allowance: 1_000_000, number, tries, rows: rows.to_vec(),
@@ -409,6 +430,7 @@ fn benches() -> Vec<Bench> {
         ample("g", graph(&[3, 3, 3], &[(0, 1), (0, 2), (1, 2)]), graph(&[3, 3, 3, 3], &[(0, 1), (0, 3), (1, 2), (2, 3)]), 0, 12, &[]),
         ample("h", graph(&[1, 2, 3, 2], &[(0, 1), (0, 2), (0, 3)]), graph(&[1, 2, 3, 3, 3], &[(0, 1), (0, 2), (0, 3), (0, 4)]), 0, 4, &[]),
         ample("i", graph(&[1, 2, 2, 4], &[(0, 1), (0, 2), (2, 3)]), graph(&[1, 2, 2, 4], &[(0, 1), (0, 2), (1, 3)]), 0, 6, &[0, 2, 1, 3]),
+        third_pass(),
         ample("j", graph(&[5], &[]), threes(), 0, 3, &[0, 1, 2]),
         Bench { allowance: 0, ..ample("j, none", graph(&[6], &[]), threes(), 0, 0, &[]) },
         ample("k, 33", graph(&[1; 33], &chain), threes(), 12, 0, &[]),
