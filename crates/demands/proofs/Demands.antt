@@ -1,10 +1,8 @@
 -- The three demands about the code: theorems on any result that the contracts of `find`, `read` and `write` allow, one a sentence. The mathematics is in the crate rules; here it is carried over by the contracts alone.
 use Prim.Native.Nat.{ℕ, _*_, _/_, _≤_, _<_}
-use mathlib.Core.Path.{_≡_, refl, ap, sym, subst, _∙_}
+use mathlib.Core.Path.{_≡_, ap, sym, subst, _∙_}
 use mathlib.Core.Logic.{_⊎_, _≢_, _↔_}
 use mathlib.Core.List.{List, [], _∷_, _++_, List·Memᴰ}
-use mathlib.Core.Bool.{true, false}
-use native.Mathlib.Omega.{arith}
 use lib.ListN.{length, take, drop, replicate}
 use Rattle.laws.specs.Lists.{Begins, Ordered}
 use Rattle.rules.specs.Sheet.{Bytes}
@@ -13,8 +11,8 @@ use Rattle.rules.specs.Place.{Place, Before, AllPlaces}
 use Rattle.rules.specs.Candidates.{orderOf}
 use Rattle.rules.specs.Tries.{triesOf}
 use Rattle.rules.specs.Partials.{partials}
-use Rattle.rules.specs.Answer.{Cut, allRows}
-use Rattle.rules.specs.Calls.{over, Read, Written, reader, ReaderHanded, writer, WriterHanded, searchChecks, searchRefusals, Handed, Searched, refused, roomOf, search, found}
+use Rattle.rules.specs.Answer.{allRows}
+use Rattle.rules.specs.Calls.{over, reader, ReaderHanded, writer, WriterHanded, searchChecks, searchRefusals, Handed, Searched, refused, roomOf, search, found}
 use Rattle.rules.proofs.Demands as rules
 use Rattle.sheet.specs.Answers.{asRead, asWritten}
 use Rattle.find.specs.Answers.{asSearched}

@@ -1,12 +1,10 @@
 -- Wrong programs, each refuted at the bench that document 01 names, for any function that would meet the contract of `find`.
 use Prim.Native.Nat.{ℕ, _≤_, _<_}
-use mathlib.Core.Path.{_≡_, refl, ap, sym, subst, _∙_}
+use mathlib.Core.Path.{_≡_, ap, sym, subst, _∙_}
 use mathlib.Core.Logic.{_≢_}
 use mathlib.Core.List.{List, [], _∷_}
 use native.Mathlib.Omega.{arith}
 use lib.ListN.{length, getD, replicate, getD-replicate, length-replicate}
-use Rattle.rules.specs.Partials.{partials}
-use Rattle.rules.specs.Calls.{figureOf, patchOf}
 use Rattle.rules.specs.Benches.{find, run, all-benches, W, cF, cP, fS, hF, hP}
 use Rattle.demands.specs.Calls.{Asked, Given, Meets}
 use Rattle.demands.proofs.Demands.{memory-zeroed, that-many-suffice}

@@ -3,7 +3,7 @@ use Prim.Native.Nat.{ℕ}
 use mathlib.Core.Path.{_≡_}
 use mathlib.Core.List.{List}
 use Rattle.rules.specs.Place.{Figure, Patch, PatchVertex}
-use Rattle.rules.specs.Calls.{reader, writer, Searched, figureOf, patchOf, roomOf, found}
+use Rattle.rules.specs.Calls.{reader, writer, figureOf, patchOf, found}
 use Rattle.sheet.specs.Answers.{asRead, asWritten}
 use Rattle.sheet.specs.declared.reader.ReadAnswer.{ReadAnswer}
 use Rattle.sheet.specs.declared.writer.WriteAnswer.{WriteAnswer}

@@ -2,6 +2,5 @@
 pub mod Lists
 pub mod Filled
 pub mod Breadth
-pub mod Lines
 pub mod Loaded
 pub mod Verdict

@@ -3,7 +3,7 @@ use Prim.Native.Nat.{ℕ}
 use mathlib.Core.Path.{_≡_, refl, ap, sym, _∙_}
 use mathlib.Core.Bool.{Bool}
 use mathlib.Core.List.{List, [], _∷_}
-use Rattle.rules.specs.Checks.{Check, verdict, sheetVerdict, sheetChecks, figureLimits, Accepted}
+use Rattle.rules.specs.Checks.{verdict, sheetVerdict, sheetChecks, figureLimits, Accepted}
 use Rattle.rules.specs.Calls.{connected, figureOf, figureChecks, searchRefusals}
 use Rattle.rules.proofs.Accepted.{verdict-first, verdict-rest, numbered-positive, figure-sheet-numbered, accepted-iff}
 

@@ -1,8 +1,8 @@
 -- The three demands of document 01, for the calls on bytes and for every input, one theorem a sentence. Start here; the other files hold the proofs.
-use Prim.Native.Nat.{ℕ, suc, _+_, _*_, _/_, _≤_, _<_}
+use Prim.Native.Nat.{ℕ, _+_, _*_, _/_, _≤_, _<_}
 use mathlib.Core.Path.{_≡_, refl, ap, sym, _∙_}
 use mathlib.Core.Logic.{_⊎_, inl, inr, _≢_, _↔_}
-use mathlib.Core.List.{List, [], _∷_, _++_, flatten, List·Memᴰ, List·Memᴰ·not-nil, List·Memᴰ·head, List·Memᴰ·tail, Memᴰ·append-left, Memᴰ·append-right}
+use mathlib.Core.List.{List, [], _∷_, _++_, flatten, List·Memᴰ, List·Memᴰ·not-nil, List·Memᴰ·head, Memᴰ·append-left, Memᴰ·append-right}
 use mathlib.Core.Bool.{true, false}
 use native.Mathlib.Omega.{arith}
 use lib.ListN.{length, take, drop, replicate}
@@ -13,7 +13,7 @@ use Rattle.rules.specs.Place.{Figure, Patch, Placed, Place, Before, AllP
 use Rattle.rules.specs.Candidates.{orderOf, setsOf}
 use Rattle.rules.specs.Tries.{triesOf}
 use Rattle.rules.specs.Partials.{Partial, partialsOf, partials}
-use Rattle.rules.specs.Answer.{Answer, Cut, answer, allRows, rowsOf}
+use Rattle.rules.specs.Answer.{Cut, answer, allRows}
 use Rattle.rules.specs.Calls.{over, reader, readerChecks, readerRefusals, ReaderHanded, writer, writerChecks, writerRefusals, WriterHanded, figureOf, patchOf, searchChecks, searchRefusals, Handed, Searched, Taken, roomOf, answered, refused, search, found}
 use Rattle.laws.proofs.Lists.{no-member}
 use Rattle.rules.proofs.Accepted.{first-to-fail, from-11, handed-checked}

@@ -23,6 +23,7 @@ pub mod Bound
 pub mod Cut
 pub mod Search
 pub mod Accepted
+pub mod Ascending
 pub mod Fields
 pub mod Answers
 pub mod Calls

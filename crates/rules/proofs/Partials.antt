@@ -1,17 +1,17 @@
 -- The list of partial placements holds each of them once and nothing else, so that its length is their number.
-use Prim.Native.Nat.{ℕ, zero, suc, _+_, _≤_, _<_, min}
+use Prim.Native.Nat.{ℕ, zero, suc, _≤_, _<_}
 use mathlib.Core.Path.{_≡_, refl, ap, sym, subst, _∙_}
 use mathlib.Core.Logic.{_≢_, _↔_, _⊎_, inl, inr, ⊎-elim}
-use mathlib.Core.List.{List, [], _∷_, _++_, map, reverse, reverseAux, reverseAux-eq, List·Memᴰ, List·Memᴰ·head, List·Memᴰ·tail, List·Memᴰ·not-nil, List·Memᴰ·cases-cons, List·Memᴰ·append-cases, Memᴰ·append-left, Memᴰ·append-right, Memᴰ·map}
-use mathlib.Core.Bool.{true, false, _&&_, and-eq-true-iff, false≢true}
+use mathlib.Core.List.{List, [], _∷_, map, reverse, reverseAux, reverseAux-eq, List·Memᴰ, List·Memᴰ·head, List·Memᴰ·tail, List·Memᴰ·not-nil, List·Memᴰ·cases-cons, List·Memᴰ·append-cases, Memᴰ·append-left, Memᴰ·append-right, Memᴰ·map}
+use mathlib.Core.Bool.{true, false, and-eq-true-iff, false≢true}
 use native.Mathlib.Nat.{min-eq-left}
 use native.Mathlib.Omega.{arith}
-use borrow.Author.Tests.{eqb-true, eqb-false, eq-eqb, ne-eqb}
+use borrow.Author.Tests.{eqb-true, eq-eqb, ne-eqb}
 use lib.Dec.{eqb}
 use native.Mathlib.Decide.{ℕ-discrete, decLt}
 use lib.ListN.{length, take, drop, length-map, length-take, length-reverse, take-append-drop, List·getD-eq-default}
 use lib.Seq.{drop-at, drop-length}
-use Rattle.laws.specs.Lists.{any, all, keep, null, Ordered, nil, cons}
+use Rattle.laws.specs.Lists.{any, keep, null, Ordered, nil, cons}
 use Rattle.rules.specs.Graph.{joined}
 use Rattle.rules.specs.Place.{Figure, Patch, Placed, image, placed, images, Checked}
 use Rattle.rules.specs.Candidates.{Sets, setOf, orderOf, setsOf}

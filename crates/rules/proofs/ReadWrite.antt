@@ -1,7 +1,7 @@
 -- How the reader and the writer go: what they are rightly handed, what they change, and both round trips.
 use Prim.Native.Nat.{ℕ, zero, suc, _+_, _*_, _/_, _%_, _≤_, _<_}
 use mathlib.Core.Path.{_≡_, refl, ap, _∙_}
-use mathlib.Core.Logic.{_⊎_, inl, inr, ⊎-elim, _↔_}
+use mathlib.Core.Logic.{_⊎_, inl, inr, _↔_}
 use mathlib.Core.List.{List, [], _∷_, _++_, List·Memᴰ, Memᴰ·of-map}
 use mathlib.Core.Bool.{_&&_, and-eq-true-iff}
 use mathlib.Core.Option.{none}

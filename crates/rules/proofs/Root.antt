@@ -1,6 +1,6 @@
 -- The root is what it is to be: the vertex with the least |C(u)| / degree(u), the lowest number on a tie.
 use Prim.Native.Nat.{ℕ, zero, suc, _+_, _*_, _≤_, _<_}
-use mathlib.Core.Path.{_≡_, refl, sym, _∙_}
+use mathlib.Core.Path.{_≡_, refl, sym}
 use mathlib.Core.Logic.{inl, inr}
 use mathlib.Core.List.{List, [], _∷_, List·Memᴰ, List·Memᴰ·not-nil}
 use mathlib.Core.Bool.{Bool, true, false, cond}
@@ -10,7 +10,7 @@ use native.Mathlib.Omega.{arith}
 use borrow.Author.Tests.{ltb-true, ltb-false}
 use lib.ListN.{length}
 use Rattle.laws.specs.Lists.{upto}
-use Rattle.rules.specs.Graph.{Graph, near, degree, Way, stay, onward, Connected}
+use Rattle.rules.specs.Graph.{Graph, degree, Way, stay, onward, Connected}
 use Rattle.rules.specs.Place.{Figure, Checked}
 use Rattle.rules.specs.Candidates.{Sets, setOf, lessThan, Least, rootFrom, root}
 use Rattle.laws.proofs.Lists.{split}

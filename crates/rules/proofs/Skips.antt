@@ -6,7 +6,6 @@ use mathlib.Core.List.{List, List·Memᴰ}
 use mathlib.Core.Bool.{true, true≢false}
 use mathlib.Core.Option.{some}
 use native.Mathlib.Nat.{zero-add}
-use native.Mathlib.Omega.{arith}
 use lib.ListN.{length}
 use Rattle.laws.specs.Masks.{inMask}
 use Rattle.rules.specs.Place.{Placed, entry, placed, image}

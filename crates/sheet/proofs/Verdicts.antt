@@ -2,7 +2,7 @@
 use Prim.Native.Nat.{ℕ, zero, suc, _+_, _*_, _-_, _^_, _≤_, _<_}
 use mathlib.Core.Path.{_≡_, refl, sym, _∙_}
 use mathlib.Core.Logic.{inl, inr}
-use mathlib.Core.List.{List, [], _∷_, _++_, map, List·Memᴰ·head, List·Memᴰ·tail}
+use mathlib.Core.List.{List, [], _∷_, map}
 use mathlib.Core.Bool.{true, false, and-false, false≢true}
 use mathlib.Core.Option.{some, none}
 use native.Mathlib.Nat.{zero-mul, zero-add, mul-le-mul-right}
@@ -15,7 +15,7 @@ use lib.Pow.{pow-pos}
 use Rattle.laws.specs.Lists.{all, upto}
 use Rattle.laws.proofs.Lists.{split}
 use Rattle.rules.specs.Sheet.{Line, bitAt, word, field, vertexCount, lineCount, bitLength, byteLength, linesHeld}
-use Rattle.rules.specs.Checks.{Check, verdict, Limits, counted, cleared, lineFits, comesAfter, lineChecks, sheetVerdict}
+use Rattle.rules.specs.Checks.{verdict, Limits, counted, cleared, lineFits, comesAfter, lineChecks, sheetVerdict}
 use Rattle.rules.proofs.Accepted.{verdict-first, verdict-rest}
 use Rattle.sheet.specs.Check.{headChecks, lineVerdict}
 

@@ -1,12 +1,9 @@
-use borrow.Author.Needs.{needs}
+-- `print_rows` is safe and ends: each row printed lies within the list. Assumes nothing.
 use lib.ListN.{length}
 use native.Mathlib.Omega.{arith}
 use Prim.Native.Nat.{_≤_, _-_}
 use Rattle.show.proofs.print_rows.Statement.{statement}
 use Rattle.show.proofs.print_rows.Tie as tie
-use Rattle.show.proofs.print_rows.Reads as reads
-use Rattle.show.proofs.print_rows.Lts as lts
-use Rattle.show.proofs.print_row.Reads as print-row-reads
 
 abbrev Inv-loop : tie.InvT-loop
 Inv-loop list rows n left₀ at₀ left at = at ≤ length list
@@ -14,55 +11,42 @@ Inv-loop list rows n left₀ at₀ left at = at ≤ length list
 abbrev μ-loop : tie.MeasureT-loop
 μ-loop list rows n left₀ at₀ left at = left
 
--- src/main.rt:48:5
 loop-holds : tie.Need-loop-holds Inv-loop μ-loop
 loop-holds c = omega arith
 
--- src/main.rt:49:9
 sub-left : tie.Need-sub-left Inv-loop μ-loop
 sub-left c = omega arith
 
--- src/main.rt:50:12
 sub-if1 : tie.Need-sub-if1 Inv-loop μ-loop
 sub-if1 c = omega arith
 
--- src/main.rt:51:13
 returns : tie.Need-returns Inv-loop μ-loop
 returns c = omega arith
 
--- src/main.rt:53:20
 add-next : tie.Need-add-next Inv-loop μ-loop
 add-next c = omega arith
 
--- src/main.rt:54:19
 mul-print-row : tie.Need-mul-print-row Inv-loop μ-loop
 mul-print-row c = omega arith
 
--- src/main.rt:54:19
 sub-print-row : tie.Need-sub-print-row Inv-loop μ-loop
 sub-print-row c = omega arith
 
--- src/main.rt:54:19
 part-print-row-start : tie.Need-part-print-row-start Inv-loop μ-loop
 part-print-row-start c = omega arith
 
--- src/main.rt:54:19
 part-print-row-end : tie.Need-part-print-row-end Inv-loop μ-loop
 part-print-row-end c = omega arith
 
--- src/main.rt:54:9
 print-row-requires : tie.Need-print-row-requires Inv-loop μ-loop
 print-row-requires c κs = omega arith
 
--- src/main.rt:48:5
 loop-less : tie.Need-loop-less Inv-loop μ-loop
 loop-less c = omega arith
 
--- src/main.rt:48:5
 loop-again : tie.Need-loop-again Inv-loop μ-loop
 loop-again c = omega arith
 
--- src/main.rt:45:1
 returns-2 : tie.Need-returns-2 Inv-loop μ-loop
 returns-2 c = omega arith
 
