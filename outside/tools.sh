@@ -38,7 +38,7 @@ x86_64)
 aarch64)
     dpkg --print-foreign-architectures | grep -qx amd64 || as_root dpkg --add-architecture amd64
     install gcc-x86-64-linux-gnu libc6-dev:amd64 rustc libstd-rust-dev:amd64 qemu-user
-    rustc=/usr/bin/rustc
+    rustc=$(dpkg -L rustc | grep '/bin/rustc$')
     rust_flags='--target x86_64-unknown-linux-gnu -C linker=x86_64-linux-gnu-gcc -C target-feature=+crt-static'
     cc='x86_64-linux-gnu-gcc -static'
     emulator=qemu-x86_64
