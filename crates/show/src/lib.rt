@@ -1,5 +1,6 @@
 // What the programs do: the places of the figure in figure.sheet in the patch in patch.sheet, printed. Thin over the proved call `find`.
 ghost use Rattle.io.specs.Counts.{Counts};
+ghost use Rattle.show.specs.Numbers.{Known};
 use find::find;
 use libc::STDOUT_FILENO;
 use sheet::fields::counts;
@@ -56,8 +57,10 @@ fn print_rows(list: &[u16], rows: usize, n: usize) {
     }
 }
 
-// Number, rows and tries on one line, then one line a row.
-pub fn find_and_print() {
+// Number, rows and tries on one line, then one line a row; the number, which is one of document 01's.
+pub fn find_and_print() -> u16
+    ensures { λ r. ⌜ Known r ⌝ }
+{
     let mut figure = [0u8; 5508];
     let mut patch = [0u8; 5508];
     let n = read_sheet(b"figure.sheet", &mut figure);
@@ -70,4 +73,5 @@ pub fn find_and_print() {
     print(found.tries as u64, b'\n');
     let c = counts(&figure[..n]);
     print_rows(&list, found.rows, c.vertices as usize);
+    found.number
 }

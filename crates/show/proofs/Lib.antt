@@ -1,0 +1,2 @@
+-- The law of the number that comes back.
+pub mod Numbers

@@ -1,0 +1,2 @@
+-- What the programs' contract cites.
+pub mod Numbers
