@@ -18,7 +18,7 @@ pub struct Ran {
     pub tries: u32,
     pub end: usize,
     pub kept: bool,
-    pub list: [u16; 4096],
+    pub list: [u16; 8192],
 }
 
 // Whether every number of a list is x.
@@ -33,19 +33,19 @@ pub fn all(xs: &[u16], x: u16) -> bool {
     true
 }
 
-// Where rows of n numbers end in a list of 4,096.
-fn end_of(rows: usize, n: usize) -> usize
-    ensures { λ r. ⌜ r ≤ 4096 ⌝ }
+// Where rows of n numbers end in a list of 8,192.
+pub fn end_of(rows: usize, n: usize) -> usize
+    ensures { λ r. ⌜ r ≤ 8192 ⌝ }
 {
-    if 4096 < rows {
-        return 4096;
+    if 8192 < rows {
+        return 8192;
     }
     if 512 < n {
-        return 4096;
+        return 8192;
     }
     let end = rows * n;
-    if 4096 < end {
-        return 4096;
+    if 8192 < end {
+        return 8192;
     }
     end
 }
@@ -74,7 +74,7 @@ fn is_kept(memory: &[u16], size: usize, list: &[u16], end: usize, number: u16) -
     if !all_in(memory, size, 22600, 54321) {
         return false;
     }
-    all_in(list, end, 4096, 54321)
+    all_in(list, end, 8192, 54321)
 }
 
 // The call on the first numbers of a memory and of a list; 999, which is no number of document 01, where they are too few.
@@ -104,12 +104,12 @@ fn lend(
     )
 }
 
-// The call for a figure of n vertices, with at most 22,600 numbers of memory and 4,096 of the list lent.
+// The call for a figure of n vertices, with at most 22,600 numbers of memory and 8,192 of the list lent.
 pub fn run(figure: &[u8], patch: &[u8], n: usize, limits: Limits) -> Ran
-    ensures { λ r. ⌜ r .end ≤ 4_096 ⌝ }
+    ensures { λ r. ⌜ r .end ≤ 8_192 ⌝ }
 {
     let mut memory = [54321u16; 22600];
-    let mut list = [54321u16; 4096];
+    let mut list = [54321u16; 8192];
     let found = lend(figure, patch, &mut memory, &mut list, limits);
     let end = end_of(found.rows, n);
     let kept = is_kept(&memory, limits.memory, &list, end, found.number);
@@ -125,7 +125,7 @@ pub fn run(figure: &[u8], patch: &[u8], n: usize, limits: Limits) -> Ran
 
 // The call on the first bytes of two arrays.
 fn run_first(figure: &[u8], f: usize, patch: &[u8], p: usize, n: usize, limits: Limits) -> Ran
-    ensures { λ r. ⌜ r .end ≤ 4_096 ⌝ }
+    ensures { λ r. ⌜ r .end ≤ 8_192 ⌝ }
 {
     let start = 0;
     if figure.len() < f || patch.len() < p {
@@ -136,7 +136,7 @@ fn run_first(figure: &[u8], f: usize, patch: &[u8], p: usize, n: usize, limits: 
 
 // The call for a figure and a patch given as lists, whose sheets have at most 256 bytes.
 pub fn run_lists(fk: &[u16], fl: &[u16], pk: &[u16], pl: &[u16], limits: Limits) -> Ran
-    ensures { λ r. ⌜ r .end ≤ 4_096 ⌝ }
+    ensures { λ r. ⌜ r .end ≤ 8_192 ⌝ }
 {
     let mut figure = [0u8; 256];
     let mut patch = [0u8; 256];
