@@ -1,18 +1,17 @@
 // Compares `find` with a matcher by the definition of a place over random graphs, whole calls and calls under small limits, on dirty memory and a dirty list, and prints how many cases agree.
 // What it must print is worked out by tools/random_graphs.py, from document 01 and not from this code.
 mod draw;
-mod matcher;
 
 ghost use Prim.Native.Nat.{_≤_, _<_};
 use crate::draw::Graph;
 use crate::draw::below;
 use crate::draw::draw_graph;
-use crate::matcher::are_places;
-use crate::matcher::count_places;
-use crate::matcher::equal;
-use crate::matcher::first;
-use crate::matcher::is_connected;
 use libc::STDOUT_FILENO;
+use matcher::are_places;
+use matcher::count_places;
+use matcher::equal;
+use matcher::first;
+use matcher::is_connected;
 use show::print;
 use std::num::wrapping_add_u64;
 use trials::Limits;
@@ -20,13 +19,13 @@ use trials::Ran;
 use trials::end_of;
 use trials::run_lists;
 
-// What one case came to: the numbers of its two calls (99: none), places and tries of the whole call, and whether all agreed.
+// What one case came to: 1 where all agreed, the places and tries of its whole call, and under which sums its two calls count (11: none).
 struct Case {
-    whole: u16,
-    part: u16,
-    places: usize,
-    tries: u32,
-    agrees: bool,
+    agreed: u64,
+    places: u64,
+    tries: u64,
+    whole: usize,
+    part: usize,
 }
 
 // Whether the whole call's list holds every place once.
@@ -42,17 +41,33 @@ fn whole_agrees(fk: &[u16], fl: &[u16], pk: &[u16], pl: &[u16], ran: Ran) -> boo
 
 // Whether the numbers of a call under limits go with those of the whole call.
 fn numbers_agree(whole: Ran, part: Ran, room: usize, allowance: u32) -> bool {
+    if room < part.rows {
+        return false;
+    }
+    if allowance < part.tries {
+        return false;
+    }
     if part.number == 0 {
-        return part.rows == whole.rows && part.tries == whole.tries;
+        return same_counts(part, whole.rows, whole.tries);
     }
     if part.number == 1 {
-        return part.rows == room
-            && room < whole.rows
-            && part.tries <= whole.tries
-            && part.tries <= allowance;
+        if whole.rows <= room {
+            return false;
+        }
+        return same_counts(part, room, part.tries);
+    }
+    if whole.tries <= allowance {
+        return false;
     }
     if part.number == 2 {
-        return part.rows <= room && part.tries == allowance && allowance < whole.tries;
+        return same_counts(part, part.rows, allowance);
+    }
+    false
+}
+
+fn same_counts(ran: Ran, rows: usize, tries: u32) -> bool {
+    if ran.rows == rows {
+        return ran.tries == tries;
     }
     false
 }
@@ -108,6 +123,21 @@ fn spare(t: u64, n: usize) -> usize
     below(t + 4, n as u64) as usize
 }
 
+// Lists and memory for a room of rows of n numbers.
+fn drawn_limits(t: u64, room: usize, n: usize, allowance: u32) -> Limits
+    requires { ⌜ t < 1000000000 ⌝ }
+{
+    Limits {
+        memory: 22528 + below(t + 3, 73) as usize,
+        list: end_of(room, n) + spare(t, n),
+        allowance,
+    }
+}
+
+fn mark(b: bool) -> u64 {
+    if b { 1 } else { 0 }
+}
+
 // The second call of a case, under limits that are drawn from t on.
 fn try_limits(fk: &[u16], fl: &[u16], pk: &[u16], pl: &[u16], whole: Ran, t: u64) -> Case
     requires { ⌜ t < 1000000000 ⌝ }
@@ -115,18 +145,25 @@ fn try_limits(fk: &[u16], fl: &[u16], pk: &[u16], pl: &[u16], whole: Ran, t: u64
     let which = below(t, 4);
     let room = drawn_room(t, which, whole.rows);
     let allowance = drawn_allowance(t, which, whole.tries);
-    let limits = Limits {
-        memory: 22528 + below(t + 3, 73) as usize,
-        list: end_of(room, fk.len()) + spare(t, fk.len()),
-        allowance,
-    };
+    let limits = drawn_limits(t, room, fk.len(), allowance);
     let part = run_lists(fk, fl, pk, pl, limits);
     Case {
-        whole: whole.number,
-        part: part.number,
-        places: whole.rows,
-        tries: whole.tries,
-        agrees: part_agrees(whole, part, room, allowance),
+        agreed: mark(part_agrees(whole, part, room, allowance)),
+        places: whole.rows as u64,
+        tries: whole.tries as u64,
+        whole: 4,
+        part: 8 + part.number as usize,
+    }
+}
+
+// A case of one call.
+fn lone(agreed: u64, whole: usize) -> Case {
+    Case {
+        agreed,
+        places: 0,
+        tries: 0,
+        whole,
+        part: 11,
     }
 }
 
@@ -144,20 +181,23 @@ fn try_lists(fk: &[u16], fl: &[u16], pk: &[u16], pl: &[u16], t: u64) -> Case
         if whole_agrees(fk, fl, pk, pl, whole) {
             return try_limits(fk, fl, pk, pl, whole, t);
         }
-        return lone(whole, false);
+        return lone(0, 11);
     }
-    lone(whole, whole.number == 16 && whole.kept)
+    if is_refused(whole) {
+        return lone(1, 3);
+    }
+    lone(0, 11)
 }
 
-// A case of one call.
-fn lone(whole: Ran, agrees: bool) -> Case {
-    Case {
-        whole: whole.number,
-        part: 99,
-        places: whole.rows,
-        tries: whole.tries,
-        agrees: agrees && whole.rows == 0 && whole.tries == 0,
+// Whether the answer is 16 with nothing changed.
+fn is_refused(ran: Ran) -> bool {
+    if ran.number != 16 {
+        return false;
     }
+    if !ran.kept {
+        return false;
+    }
+    same_counts(ran, 0, 0)
 }
 
 fn try_graphs(f: Graph, p: Graph, t: u64) -> Case
@@ -212,14 +252,13 @@ fn add(sums: &mut [u64], i: usize, x: u64) {
     }
 }
 
-// One case more: whole calls by number from 0, calls under limits from 20, then cases that agreed, cases with a place, places, tries.
 fn add_case(sums: &mut [u64], c: Case) {
-    add(sums, c.whole as usize, 1);
-    add(sums, 20 + c.part as usize, 1);
-    add(sums, 40, c.agrees as u64);
-    add(sums, 41, (0 < c.places) as u64);
-    add(sums, 42, c.places as u64);
-    add(sums, 43, c.tries as u64);
+    add(sums, 2, c.agreed);
+    add(sums, c.whole, 1);
+    add(sums, 5, mark(0 < c.places));
+    add(sums, 6, c.places);
+    add(sums, 7, c.tries);
+    add(sums, c.part, 1);
 }
 
 fn add_cases(sums: &mut [u64], count: u64)
@@ -237,18 +276,26 @@ fn tell(what: &[u8], n: u64) {
     print(n, b'\n');
 }
 
+// Each sum on a line, after its 18 bytes of the labels.
+fn tell_sums(labels: &[u8], sums: &[u64]) {
+    let mut i = 0;
+    let mut a = 0;
+    while i < sums.len() {
+        if labels.len() - a < 18 {
+            return;
+        }
+        let e = a + 18;
+        tell(&labels[a..e], sums[i]);
+        a = e;
+        i += 1;
+    }
+}
+
 fn main() {
-    let mut sums = [0u64; 48];
+    let mut sums = [20261115u64, 4000, 0, 0, 0, 0, 0, 0, 0, 0, 0];
     add_cases(&mut sums, 4000);
-    tell(b"seed ", 20261115);
-    tell(b"cases ", 4000);
-    tell(b"agreed ", sums[40]);
-    tell(b"figures not connected, 16: ", sums[16]);
-    tell(b"whole calls, 0: ", sums[0]);
-    tell(b"with a place: ", sums[41]);
-    tell(b"places: ", sums[42]);
-    tell(b"tries: ", sums[43]);
-    tell(b"calls under small limits, 0: ", sums[20]);
-    tell(b"calls under small limits, 1: ", sums[21]);
-    tell(b"calls under small limits, 2: ", sums[22]);
+    tell_sums(
+        b"seed              cases             agreed            16 not connected  0 whole           0, with a place   places            tries             0 under limits    1 under limits    2 under limits    ",
+        &sums,
+    );
 }
