@@ -28,9 +28,18 @@ struct Case {
     part: usize,
 }
 
+// The room and the allowance of a call under limits: one of the two small, both, or both just enough.
+struct Small {
+    room: usize,
+    allowance: u32,
+}
+
 // Whether the whole call's list holds every place once.
 fn whole_agrees(fk: &[u16], fl: &[u16], pk: &[u16], pl: &[u16], ran: Ran) -> bool {
-    if ran.number != 0 || !ran.kept {
+    if ran.number != 0 {
+        return false;
+    }
+    if !ran.kept {
         return false;
     }
     if count_places(fk, fl, pk, pl) != ran.rows {
@@ -40,7 +49,9 @@ fn whole_agrees(fk: &[u16], fl: &[u16], pk: &[u16], pl: &[u16], ran: Ran) -> boo
 }
 
 // Whether the numbers of a call under limits go with those of the whole call.
-fn numbers_agree(whole: Ran, part: Ran, room: usize, allowance: u32) -> bool {
+fn numbers_agree(whole: Ran, part: Ran, small: Small) -> bool {
+    let room = small.room;
+    let allowance = small.allowance;
     if room < part.rows {
         return false;
     }
@@ -73,17 +84,17 @@ fn same_counts(ran: Ran, rows: usize, tries: u32) -> bool {
 }
 
 // Whether a call under limits agrees with the whole call: its rows are the first of the whole call's.
-fn part_agrees(whole: Ran, part: Ran, room: usize, allowance: u32) -> bool {
+fn part_agrees(whole: Ran, part: Ran, small: Small) -> bool {
     if !part.kept {
         return false;
     }
-    if !numbers_agree(whole, part, room, allowance) {
+    if !numbers_agree(whole, part, small) {
         return false;
     }
     equal(first(&whole.list, part.end), first(&part.list, part.end))
 }
 
-// The room and the allowance of a call under limits: one of the two small, both, or both just enough.
+// The room: just enough, ample, or drawn.
 fn drawn_room(t: u64, which: u64, rows: usize) -> usize
     requires { ⌜ t < 1000000000 ⌝ }
 {
@@ -97,6 +108,7 @@ fn drawn_room(t: u64, which: u64, rows: usize) -> usize
     below(t + 1, k as u64 + 2) as usize
 }
 
+// The allowance: just enough, ample, or drawn.
 fn drawn_allowance(t: u64, which: u64, tries: u32) -> u32
     requires { ⌜ t < 1000000000 ⌝ }
 {
@@ -107,6 +119,16 @@ fn drawn_allowance(t: u64, which: u64, tries: u32) -> u32
         return 4000000000;
     }
     below(t + 2, (tries as u64) % 1000000000 + 2) as u32
+}
+
+fn drawn_small(t: u64, rows: usize, tries: u32) -> Small
+    requires { ⌜ t < 1000000000 ⌝ }
+{
+    let which = below(t, 4);
+    Small {
+        room: drawn_room(t, which, rows),
+        allowance: drawn_allowance(t, which, tries),
+    }
 }
 
 // How many numbers the list has beyond its rows: fewer than a row.
@@ -123,14 +145,14 @@ fn spare(t: u64, n: usize) -> usize
     below(t + 4, n as u64) as usize
 }
 
-// Lists and memory for a room of rows of n numbers.
-fn drawn_limits(t: u64, room: usize, n: usize, allowance: u32) -> Limits
+// What is lent where rows have n numbers.
+fn drawn_limits(t: u64, small: Small, n: usize) -> Limits
     requires { ⌜ t < 1000000000 ⌝ }
 {
     Limits {
         memory: 22528 + below(t + 3, 73) as usize,
-        list: end_of(room, n) + spare(t, n),
-        allowance,
+        list: end_of(small.room, n) + spare(t, n),
+        allowance: small.allowance,
     }
 }
 
@@ -138,22 +160,25 @@ fn mark(b: bool) -> u64 {
     if b { 1 } else { 0 }
 }
 
-// The second call of a case, under limits that are drawn from t on.
-fn try_limits(fk: &[u16], fl: &[u16], pk: &[u16], pl: &[u16], whole: Ran, t: u64) -> Case
-    requires { ⌜ t < 1000000000 ⌝ }
-{
-    let which = below(t, 4);
-    let room = drawn_room(t, which, whole.rows);
-    let allowance = drawn_allowance(t, which, whole.tries);
-    let limits = drawn_limits(t, room, fk.len(), allowance);
-    let part = run_lists(fk, fl, pk, pl, limits);
+// A case of two calls, of which the first agrees with the matcher.
+fn judged(whole: Ran, part: Ran, small: Small) -> Case {
     Case {
-        agreed: mark(part_agrees(whole, part, room, allowance)),
+        agreed: mark(part_agrees(whole, part, small)),
         places: whole.rows as u64,
         tries: whole.tries as u64,
         whole: 4,
         part: 8 + part.number as usize,
     }
+}
+
+// The second call of a case, under limits that are drawn from t on.
+fn try_limits(fk: &[u16], fl: &[u16], pk: &[u16], pl: &[u16], whole: Ran, t: u64) -> Case
+    requires { ⌜ t < 1000000000 ⌝ }
+{
+    let small = drawn_small(t, whole.rows, whole.tries);
+    let limits = drawn_limits(t, small, fk.len());
+    let part = run_lists(fk, fl, pk, pl, limits);
+    judged(whole, part, small)
 }
 
 // A case of one call.
@@ -252,12 +277,15 @@ fn add(sums: &mut [u64], i: usize, x: u64) {
     }
 }
 
-fn add_case(sums: &mut [u64], c: Case) {
+fn add_counts(sums: &mut [u64], c: Case) {
     add(sums, 2, c.agreed);
-    add(sums, c.whole, 1);
-    add(sums, 5, mark(0 < c.places));
     add(sums, 6, c.places);
     add(sums, 7, c.tries);
+}
+
+fn add_calls(sums: &mut [u64], c: Case) {
+    add(sums, c.whole, 1);
+    add(sums, 5, mark(0 < c.places));
     add(sums, c.part, 1);
 }
 
@@ -266,7 +294,9 @@ fn add_cases(sums: &mut [u64], count: u64)
 {
     let mut i = 0;
     while i < count {
-        add_case(sums, try_case(i));
+        let c = try_case(i);
+        add_counts(sums, c);
+        add_calls(sums, c);
         i += 1;
     }
 }

@@ -18,8 +18,11 @@ loop-holds c = search needs
 try-case-requires : tie.Need-try-case-requires Inv-loop μ-loop
 try-case-requires c κs = search needs
 
-add-case-requires : tie.Need-add-case-requires Inv-loop μ-loop
-add-case-requires c κs = search needs
+add-counts-requires : tie.Need-add-counts-requires Inv-loop μ-loop
+add-counts-requires c κs = search needs
+
+add-calls-requires : tie.Need-add-calls-requires Inv-loop μ-loop
+add-calls-requires c κs = search needs
 
 add-i : tie.Need-add-i Inv-loop μ-loop
 add-i c = search needs
@@ -44,7 +47,8 @@ add-cases-spec =
     μ-loop
     loop-holds
     try-case-requires
-    add-case-requires
+    add-counts-requires
+    add-calls-requires
     add-i
     loop-less
     loop-again
