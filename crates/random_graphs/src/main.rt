@@ -172,11 +172,10 @@ fn judged(whole: Ran, part: Ran, small: Small) -> Case {
 }
 
 // The second call of a case, under limits that are drawn from t on.
-fn try_limits(fk: &[u16], fl: &[u16], pk: &[u16], pl: &[u16], whole: Ran, t: u64) -> Case
-    requires { ⌜ t < 1000000000 ⌝ }
-{
-    let small = drawn_small(t, whole.rows, whole.tries);
-    let limits = drawn_limits(t, small, fk.len());
+fn try_limits(fk: &[u16], fl: &[u16], pk: &[u16], pl: &[u16], whole: Ran, t: u64) -> Case {
+    let k = t % 1000000000;
+    let small = drawn_small(k, whole.rows, whole.tries);
+    let limits = drawn_limits(k, small, fk.len());
     let part = run_lists(fk, fl, pk, pl, limits);
     judged(whole, part, small)
 }
@@ -193,9 +192,7 @@ fn lone(agreed: u64, whole: usize) -> Case {
 }
 
 // A whole call, and where it agrees with the matcher a call under limits.
-fn try_lists(fk: &[u16], fl: &[u16], pk: &[u16], pl: &[u16], t: u64) -> Case
-    requires { ⌜ t < 1000000000 ⌝ }
-{
+fn try_lists(fk: &[u16], fl: &[u16], pk: &[u16], pl: &[u16], t: u64) -> Case {
     let ample = Limits {
         memory: 22600,
         list: 8192,
@@ -225,9 +222,7 @@ fn is_refused(ran: Ran) -> bool {
     same_counts(ran, 0, 0)
 }
 
-fn try_graphs(f: Graph, p: Graph, t: u64) -> Case
-    requires { ⌜ t < 1000000000 ⌝ }
-{
+fn try_graphs(f: Graph, p: Graph, t: u64) -> Case {
     let fl = f.lines;
     let pl = p.lines;
     try_lists(
