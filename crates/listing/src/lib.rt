@@ -1,6 +1,7 @@
 // The text form of a sheet (docs/TEXT.md), written: the two lists that the proved reader gives, into lent bytes, one item a line.
 ghost use Prim.Native.Nat.{_≤_};
 ghost use lib.ListN.{length};
+ghost use Rattle.io.specs.Counts.{Counts};
 use sheet::reader::read;
 
 // 0 and the text's bytes, or the reader's number.
@@ -122,7 +123,7 @@ fn put_first_lists(out: &mut [u8], kinds: &[u16], n: usize, lines: &[u16], m: us
 
 // The text of a sheet within patch limits: at most 47,616 bytes.
 pub fn text_of(sheet: &[u8], out: &mut [u8]) -> SheetText
-    ensures { λ r. ⌜ r .count ≤ length (now (out .exit)) ⌝ }
+    ensures { λ r. ⌜ Counts (r .count) (now (out .exit)) ⌝ }
 {
     let mut kinds = [0u16; 512];
     let mut lines = [0u16; 6144];

@@ -1,6 +1,7 @@
 // A text's sheet, by the proved writer, or the refusal and the line of the text that it is about.
 ghost use Prim.Native.Nat.{_≤_};
 ghost use lib.ListN.{length};
+ghost use Rattle.io.specs.Counts.{Counts};
 use crate::lists::lists;
 use sheet::writer::write;
 
@@ -71,7 +72,7 @@ fn line_after(text: &[u8], kinds_taken: usize, numbers_taken: usize) -> usize {
 
 // What the writer makes of two lists, and, where it refuses an item, the line of the text on which that stands.
 fn written(text: &[u8], kinds: &[u16], lines: &[u16], last: usize, bytes: &mut [u8]) -> TextSheet
-    ensures { λ r. ⌜ r .count ≤ length (now (bytes .exit)) ⌝ }
+    ensures { λ r. ⌜ Counts (r .count) (now (bytes .exit)) ⌝ }
 {
     let answer = write(kinds, lines, bytes);
     let number = answer.number;
@@ -108,7 +109,7 @@ fn written(text: &[u8], kinds: &[u16], lines: &[u16], last: usize, bytes: &mut [
 
 // The sheet of a text of up to 131,072 bytes.
 pub fn sheet_of(text: &[u8], bytes: &mut [u8]) -> TextSheet
-    ensures { λ r. ⌜ r .count ≤ length (now (bytes .exit)) ⌝ }
+    ensures { λ r. ⌜ Counts (r .count) (now (bytes .exit)) ⌝ }
 {
     let mut kinds = [0u16; 512];
     let mut lines = [0u16; 6144];
