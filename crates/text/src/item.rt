@@ -2,9 +2,7 @@
 use crate::token::Token;
 use crate::token::ends;
 use crate::token::is;
-use crate::token::next_number;
-use crate::token::next_word;
-use crate::token::skip;
+use crate::token::number;
 use crate::token::word;
 
 // A vertex with its number and kind; a line with its type and ends; an empty line or a comment; a number of docs/TEXT.md for what is wrong.
@@ -61,16 +59,16 @@ fn first_alike(kind: u64) -> u64 {
 }
 
 // What follows a vertex's number: the word for its kind, and the kind.
-fn vertex(text: &[u8], number: Token) -> Item {
-    if 65535 < number.value {
+fn vertex(text: &[u8], place: Token) -> Item {
+    if 65535 < place.value {
         return Item::Wrong(72);
     }
-    let named = next_word(text, number.next);
+    let named = word(text, place.next);
     let lowest = kinds_from(named.value);
     if lowest == 64 {
         return Item::Wrong(73);
     }
-    let kind = next_number(text, named.next);
+    let kind = number(text, named.next);
     if 65535 < kind.value {
         return Item::Wrong(72);
     }
@@ -82,7 +80,7 @@ fn vertex(text: &[u8], number: Token) -> Item {
     if !ends(text, kind.next) {
         return Item::Wrong(75);
     }
-    Item::Vertex(number.value as u16, kind.value as u16)
+    Item::Vertex(place.value as u16, kind.value as u16)
 }
 
 // What follows a line's first end: the second.
@@ -90,7 +88,7 @@ fn line(text: &[u8], sort: u16, first: Token) -> Item {
     if 65535 < first.value {
         return Item::Wrong(72);
     }
-    let second = next_number(text, first.next);
+    let second = number(text, first.next);
     if 65535 < second.value {
         return Item::Wrong(72);
     }
@@ -105,14 +103,14 @@ pub(crate) fn item_at(text: &[u8], at: usize) -> Item {
     if ends(text, at) {
         return Item::Nothing;
     }
-    let named = word(text, skip(text, at));
-    let number = next_number(text, named.next);
+    let named = word(text, at);
+    let first = number(text, named.next);
     if is(named.value, b"vertex") {
-        return vertex(text, number);
+        return vertex(text, first);
     }
     let sort = line_type(named.value);
     if sort == 3 {
         return Item::Wrong(71);
     }
-    line(text, sort, number)
+    line(text, sort, first)
 }

@@ -33,17 +33,29 @@ pub(crate) fn skip(text: &[u8], at: usize) -> usize {
     i
 }
 
+// What a line's items end at: its end, or a comment.
+fn closes(byte: u8) -> bool {
+    if byte == b'#' {
+        return true;
+    }
+    byte == b'\n'
+}
+
 // Whether nothing follows on the line but blanks and a comment.
 pub(crate) fn ends(text: &[u8], at: usize) -> bool {
     let i = skip(text, at);
     if i < text.len() {
-        let byte = text[i];
-        if byte == b'#' {
-            return true;
-        }
-        return byte == b'\n';
+        return closes(text[i]);
     }
     true
+}
+
+// Whether a word or a number ends before this byte.
+fn parts(byte: u8) -> bool {
+    if closes(byte) {
+        return true;
+    }
+    blank(byte)
 }
 
 fn wide(byte: u8) -> u64
@@ -62,23 +74,23 @@ fn grown(value: u64, digit: u8, base: u8) -> u64
     value * 26 + wide(digit)
 }
 
-// The number that the digits from `at` on give after `start`: those bytes that are `first` or one of the next below `base`.
+// What stands at `at` up to the next blank, comment or end, as a number: the digits that its bytes are from `first` on, in a base, after `start`; NONE where a byte is no digit.
 fn fold(text: &[u8], at: usize, start: u64, first: u8, base: u8) -> Token {
     let mut value = start;
     let mut i = at;
     while i < text.len() {
         let byte = text[i];
-        if byte < first {
+        if parts(byte) {
             return Token { value, next: i };
+        }
+        if byte < first {
+            return nothing(i);
         }
         if base <= byte - first {
-            return Token { value, next: i };
+            return nothing(i);
         }
         if 288230376151711744 <= value {
-            return Token {
-                value: NONE,
-                next: i,
-            };
+            return nothing(i);
         }
         value = grown(value, byte - first, base);
         i += 1;
@@ -86,40 +98,27 @@ fn fold(text: &[u8], at: usize, start: u64, first: u8, base: u8) -> Token {
     Token { value, next: i }
 }
 
-// The word at `at` as a number: its letters as digits in base 26 after a 1, so that two words have one number only if they are the same.
+// No word and no number.
+fn nothing(at: usize) -> Token {
+    Token {
+        value: NONE,
+        next: at,
+    }
+}
+
+// The word after the blanks at `at` as a number: its letters as digits in base 26 after a 1, so that two words have one number only if they are the same.
 pub(crate) fn word(text: &[u8], at: usize) -> Token {
-    fold(text, at, 1, b'a', 26)
+    fold(text, skip(text, at), 1, b'a', 26)
 }
 
-// The word after the blanks at `at`, of which there must be one.
-pub(crate) fn next_word(text: &[u8], at: usize) -> Token {
+// The number after the blanks at `at`.
+pub(crate) fn number(text: &[u8], at: usize) -> Token {
     let i = skip(text, at);
-    if i == at {
-        return Token {
-            value: NONE,
-            next: i,
-        };
+    let digits = fold(text, i, 0, b'0', 10);
+    if digits.next == i {
+        return nothing(i);
     }
-    word(text, i)
-}
-
-// The number after the blanks at `at`, of which there must be one.
-pub(crate) fn next_number(text: &[u8], at: usize) -> Token {
-    let i = skip(text, at);
-    let number = fold(text, i, 0, b'0', 10);
-    if i == at {
-        return Token {
-            value: NONE,
-            next: i,
-        };
-    }
-    if number.next == i {
-        return Token {
-            value: NONE,
-            next: i,
-        };
-    }
-    number
+    digits
 }
 
 // Whether a word is the one named.
