@@ -3,6 +3,7 @@
 Not proved, only tested (.ci/examples). What a text or a sheet says is never worked out here: the
 programs text_to_sheet and sheet_to_text do that, over the proved reader and writer.
 """
+import functools
 import os
 import platform
 import subprocess
@@ -19,6 +20,14 @@ class Refused(Exception):
     def __init__(self, message, status=1):
         super().__init__(message)
         self.status = status
+
+
+def rt(*words):
+    """The Rattle kit's command."""
+    try:
+        return subprocess.run(["rt", *words], cwd=ROOT, capture_output=True, text=True)
+    except FileNotFoundError:
+        raise Refused("the Rattle kit's command rt is not there; README says what is needed", 2)
 
 
 def sources(name):
@@ -40,12 +49,13 @@ def sources(name):
             yield from (os.path.join(folder, f) for f in files)
 
 
+@functools.lru_cache(None)
 def built(name):
     """The program's path, after building and proving it where that is missing."""
     path = os.path.join(ROOT, "target", "bin", name)
     if not os.path.exists(path) or any(os.path.getmtime(path) < os.path.getmtime(f) for f in sources(name)):
         print(f"building and proving the program {name}, which takes some minutes", file=sys.stderr)
-        done = subprocess.run(["rt", "check", name], cwd=ROOT, capture_output=True, text=True)
+        done = rt("check", name)
         if done.returncode:
             last = "\n".join((done.stdout + done.stderr).splitlines()[-20:])
             raise Refused(f"{last}\nthe program {name} could not be built", 2)
@@ -53,19 +63,21 @@ def built(name):
     return path
 
 
-def run(name, given=b"", folder=None):
-    """What a program writes to standard output and standard error.
-
-    Programs are for x86-64; the kit has their loader, and an emulator where the machine is another.
-    """
-    path = built(name)
-    doc = subprocess.run(["rt", "doc"], capture_output=True, text=True, check=True).stdout.strip()
-    tools = os.path.join(os.path.dirname(os.path.dirname(doc)), "on", platform.machine(), "toolchain")
+@functools.lru_cache(None)
+def starter():
+    """How a program is started. Programs are for x86-64; the kit has their loader, and an emulator where the machine is another."""
+    kit = os.path.dirname(os.path.dirname(rt("doc").stdout.strip()))
+    tools = os.path.join(kit, "on", platform.machine(), "toolchain")
     emulator = os.path.join(tools, "bin", "qemu-x86_64")
     library = os.path.join(tools, "lib")
     start = [emulator] if os.access(emulator, os.X_OK) else []
-    start += [os.path.join(library, "ld-linux-x86-64.so.2"), "--library-path", library, path]
-    done = subprocess.run(start, input=given, cwd=folder, capture_output=True)
+    return start + [os.path.join(library, "ld-linux-x86-64.so.2"), "--library-path", library]
+
+
+def run(name, given=b"", folder=None):
+    """What a program writes to standard output and standard error."""
+    path = built(name)
+    done = subprocess.run(starter() + [path], input=given, cwd=folder, capture_output=True)
     if done.returncode:
         raise Refused(f"the program {name} ended with status {done.returncode}", 2)
     return done.stdout, done.stderr.decode()
