@@ -22,6 +22,20 @@ pub record Good (F : Figure) (P : Patch) (rows : List ℕ) (k : ℕ) : Type 0 wh
 abbrev pub Repeats : (n : ℕ) (rows : List ℕ) (i : ℕ) → Type 0
 Repeats n rows i = (j : ℕ) × (j < i) × (rowAt n rows j ≡ rowAt n rows i)
 
+-- row i is one of k rows, and every row before it is good: it may be the first bad one
+pub record Reached (F : Figure) (P : Patch) (rows : List ℕ) (k i : ℕ) : Type 0 where
+  pub there : i < k
+  pub before : Good F P rows i
+
+-- what the test of k rows answers: a number, and the first bad row, or 0 where there is none
+pub data RowsTested (F : Figure) (P : Patch) (rows : List ℕ) (k number row : ℕ) : Type 0 where
+  -- 0: every row is a place, and no two rows are equal
+  all-good : number ≡ 0 → row ≡ 0 → Good F P rows k → RowsTested F P rows k number row
+  -- 43: the first bad row is not a place
+  not-a-place : number ≡ 43 → Reached F P rows k row → (Place F P (rowAt (F .graph .size) rows row) → ⊥) → RowsTested F P rows k number row
+  -- 44: the first bad row is a place, and equal to an earlier row
+  repeated : number ≡ 44 → Reached F P rows k row → Place F P (rowAt (F .graph .size) rows row) → Repeats (F .graph .size) rows row → RowsTested F P rows k number row
+
 -- the checks before the rows': the figure's, the patch's, then 42 where the list is not a whole number of rows
 unfoldable pub rowChecks : (figure patch rows : List ℕ) → List Check
 rowChecks figure patch rows = figureChecks figure ++ (sheetChecks patchLimits patch ++ (eqb (length rows % figureOf figure .graph .size) 0, 42) ∷ [])
@@ -30,22 +44,10 @@ rowChecks figure patch rows = figureChecks figure ++ (sheetChecks patchLimits pa
 abbrev pub rowCount : (figure rows : List ℕ) → ℕ
 rowCount figure rows = length rows / figureOf figure .graph .size
 
--- row i is there, and every row before it is good: it may be the first bad one
-pub record Reached (figure patch rows : List ℕ) (i : ℕ) : Type 0 where
-  pub passed : verdict (rowChecks figure patch rows) ≡ 0
-  pub there : i < rowCount figure rows
-  pub before : Good (figureOf figure) (patchOf patch) rows i
-
--- what the row check answers: a number, and the first bad row, which is 0 in every other answer
+-- what the row check answers: the number of the first check to fail before the rows, with row 0; else what the test of all its rows answers
 pub data RowsChecked (figure patch rows : List ℕ) (number row : ℕ) : Type 0 where
-  -- by a check before the rows', which says nothing of them
   refused : number ≢ 0 → number ≡ verdict (rowChecks figure patch rows) → row ≡ 0 → RowsChecked figure patch rows number row
-  -- 0, accepted: every row is a place and no two rows are equal
-  accepted : number ≡ 0 → row ≡ 0 → verdict (rowChecks figure patch rows) ≡ 0 → Good (figureOf figure) (patchOf patch) rows (rowCount figure rows) → RowsChecked figure patch rows number row
-  -- 43: the first bad row is not a place
-  not-a-place : number ≡ 43 → Reached figure patch rows row → (Place (figureOf figure) (patchOf patch) (rowAt (figureOf figure .graph .size) rows row) → ⊥) → RowsChecked figure patch rows number row
-  -- 44: the first bad row is a place that equals an earlier row
-  repeated : number ≡ 44 → Reached figure patch rows row → Place (figureOf figure) (patchOf patch) (rowAt (figureOf figure .graph .size) rows row) → Repeats (figureOf figure .graph .size) rows row → RowsChecked figure patch rows number row
+  tested : verdict (rowChecks figure patch rows) ≡ 0 → RowsTested (figureOf figure) (patchOf patch) rows (rowCount figure rows) number row → RowsChecked figure patch rows number row
 
 -- the numbers by which the row check refuses
 abbrev pub rowRefusals : List ℕ
