@@ -5,3 +5,6 @@ pub mod Ends
 pub mod Places
 pub mod Rows
 pub mod Marks
+pub mod Walks
+pub mod Before
+pub mod Loaded

@@ -1,7 +1,7 @@
 -- Digests and marks: a mark that is set stays set, and a row that equals an earlier one finds both its marks. Assumes nothing.
 use Prim.Native.Nat.{ℕ, _+_, _*_, _/_, _%_, _^_, _≤_, _<_}
 use mathlib.Core.Path.{_≡_, refl, ap, sym, subst, _∙_}
-use mathlib.Core.Bool.{true, false, false≢true}
+use mathlib.Core.Bool.{true}
 use mathlib.Core.List.{List}
 use native.Mathlib.Nat.{mod-lt, mod-eq-of-lt, one-mul, div-lt-iff-lt-mul}
 use native.Mathlib.Numerals.{add-one}
@@ -9,10 +9,9 @@ use native.Mathlib.Decide.{ℕ-discrete}
 use native.Mathlib.Omega.{arith}
 use borrow.Author.Tests.{eq-eqb}
 use lib.Bits.{bitOr}
-use lib.ListN.{length, getD, drop, set, length-set, drop-of-length-le}
+use lib.ListN.{length, getD, drop, length-set, drop-of-length-le}
 use lib.Pow.{pow-lt}
 use lib.Seq.{drop-cons, getD-set-same, getD-set-other}
-use Rattle.laws.specs.Masks.{inMask}
 use Rattle.laws.proofs.Masks.{in-left, in-right, in-one}
 use Rattle.rules.specs.RowCheck.{rowAt, Repeats}
 use Rattle.row_check.specs.Marks.{mixed, digestFrom, digestOf, isMarked, markedAt, Met, Noted}

@@ -6,11 +6,11 @@ use mathlib.Core.Bool.{true}
 use native.Mathlib.Omega.{arith}
 use borrow.Author.Tests.{eqb-true, eq-eqb}
 use lib.ListN.{length, getD}
-use Rattle.laws.specs.Lists.{has, Ordered}
+use Rattle.laws.specs.Lists.{has}
 use Rattle.laws.proofs.Lists.{getD-in, getD-out}
 use Rattle.rules.specs.Graph.{joined}
-use Rattle.rules.specs.Place.{Figure, Patch, Place, entry, figureKind, patchKind, kindFits}
-use Rattle.patch.specs.Tables.{runAt, kindAt, Holds}
+use Rattle.rules.specs.Place.{Figure, Patch, Place, entry, kindFits}
+use Rattle.patch.specs.Tables.{runAt, Holds}
 use Rattle.row_check.specs.Against.{Readable, Within, KindsFit, Apart, LinesKept, Against}
 
 -- tables that hold a patch can be read

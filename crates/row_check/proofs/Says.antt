@@ -1,5 +1,5 @@
 -- What a true yes or no says. Assumes nothing.
-use mathlib.Core.Path.{_≡_, refl, subst}
+use mathlib.Core.Path.{_≡_, subst}
 use mathlib.Core.Bool.{Bool, true, false}
 use Rattle.row_check.specs.Says.{Says}
 

@@ -99,8 +99,11 @@ pub(crate) fn repeats(rows: &[u16], n: usize, i: usize, marks: &mut [u32; 2048])
     let met_high = is_marked(marks, high);
     mark(marks, low);
     mark(marks, high);
-    if met_low && met_high {
-        return stands_before(rows, n, i);
+    if !met_low {
+        return false;
     }
-    false
+    if !met_high {
+        return false;
+    }
+    stands_before(rows, n, i)
 }

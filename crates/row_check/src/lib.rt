@@ -1,6 +1,6 @@
 // The check of a list of rows, whoever made it: accepted exactly if every row is a place and no two rows are equal.
 ghost use mathlib.Core.Path.{_≡_};
-ghost use Prim.Native.Nat.{_*_, _/_, _≤_, _<_};
+ghost use Prim.Native.Nat.{_/_, _<_};
 ghost use lib.ListN.{length};
 ghost use Rattle.rules.specs.Checks.{Accepted, figureLimits, verdict};
 ghost use Rattle.rules.specs.Place.{Figure, Patch};
@@ -17,6 +17,7 @@ use figure::load_figure;
 use patch::load;
 use sheet::check::check_patch;
 use sheet::fields::counts;
+
 mod equal;
 mod place;
 

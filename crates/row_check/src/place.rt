@@ -1,5 +1,4 @@
 // Whether a row is a place: its entries and their kinds, that no two are the same, and the figure's lines one by one.
-ghost use mathlib.Core.Path.{_≡_};
 ghost use Prim.Native.Nat.{ℕ, _≤_, _<_};
 ghost use lib.ListN.{length, getD};
 ghost use Rattle.rules.specs.Checks.{Accepted, figureLimits};

@@ -1,3 +1,4 @@
+-- `digest` meets its contract. The invariant: the digest of what is left, gone on from d, is the row's. Assumes nothing.
 use native.Mathlib.Omega.{arith}
 use native.Mathlib.Nat.{mod-lt}
 use Rattle.row_check.proofs.Marks.{digest-more, digest-end}
@@ -8,9 +9,6 @@ use lib.ListN.{length, drop}
 use Rattle.row_check.specs.Marks.{digestFrom}
 use Rattle.row_check.proofs.equal.digest.Statement.{statement}
 use Rattle.row_check.proofs.equal.digest.Tie as tie
-use Rattle.row_check.proofs.equal.digest.Reads as reads
-use Rattle.row_check.proofs.equal.digest.Lts as lts
-use Rattle.row_check.proofs.equal.word.Reads as word-reads
 
 abbrev Inv-loop : tie.InvT-loop
 Inv-loop row d₀ i₀ d i = (i ≤ length row) × (d < 4_294_967_291) × (digestFrom d (drop i row) ≡ digestFrom 0 row)
@@ -18,43 +16,33 @@ Inv-loop row d₀ i₀ d i = (i ≤ length row) × (d < 4_294_967_291) × (diges
 abbrev μ-loop : tie.MeasureT-loop
 μ-loop row d₀ i₀ d i = length row - i
 
--- src/equal.rt:63:5
 loop-holds : tie.Need-loop-holds Inv-loop μ-loop
 loop-holds c = search needs
 
--- src/equal.rt:64:14
 mul-d : tie.Need-mul-d Inv-loop μ-loop
 mul-d c = search needs
 
--- src/equal.rt:64:36
 mul-word : tie.Need-mul-word Inv-loop μ-loop
 mul-word c = search needs
 
--- src/equal.rt:64:36
 shared-slice-read-word : tie.Need-shared-slice-read-word Inv-loop μ-loop
 shared-slice-read-word c = search needs
 
--- src/equal.rt:64:31
 word-requires : tie.Need-word-requires Inv-loop μ-loop
 word-requires c κs = search needs
 
--- src/equal.rt:64:14
 add-d : tie.Need-add-d Inv-loop μ-loop
 add-d c = omega (arith, c .word .ensures, c .before .shared-slice-known2 .given (c .before .before .before .loop .i), c .before .before .before .loop .inv .1)
 
--- src/equal.rt:65:9
 add-i : tie.Need-add-i Inv-loop μ-loop
 add-i c = search needs
 
--- src/equal.rt:63:5
 loop-less : tie.Need-loop-less Inv-loop μ-loop
 loop-less c = search needs
 
--- src/equal.rt:63:5
 loop-again : tie.Need-loop-again Inv-loop μ-loop
 loop-again c = (search needs, mod-lt _ (omega arith), digest-more (c .before .before .before .before .before .args .row .now) (c .before .before .before .loop .d) (c .before .before .before .loop .i) _ (c .before .before .loop-test .taken) (c .word .ensures) (c .before .before .before .loop .inv .2))
 
--- src/equal.rt:58:1
 returns : tie.Need-returns Inv-loop μ-loop
 returns c = (digest-end (c .before .before .before .args .row .now) _ _ (c .loop-test .left) (c .before .loop .inv .2), omega (arith, c .before .loop .inv .1))
 

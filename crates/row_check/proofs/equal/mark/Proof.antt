@@ -1,3 +1,4 @@
+-- `mark` meets its contract: a bit shifted by less than 32 is not cut. Assumes nothing.
 use Prim.Native.Nat.{_/_, _%_}
 use lib.ListN.{getD, set}
 use lib.Bits.{bitOr}
@@ -9,34 +10,25 @@ use Rattle.row_check.specs.Marks.{markedAt}
 use borrow.Author.Needs.{needs}
 use Rattle.row_check.proofs.equal.mark.Statement.{statement}
 use Rattle.row_check.proofs.equal.mark.Tie as tie
-use Rattle.row_check.proofs.equal.mark.Reads as reads
-use Rattle.row_check.proofs.equal.mark.Lts as lts
 
--- src/equal.rt:86:15
 cast-bit : tie.Need-cast-bit
 cast-bit c = search needs
 
--- src/equal.rt:87:16
 mul-marks : tie.Need-mul-marks
 mul-marks c = search needs
 
--- src/equal.rt:87:16
 element-copy-out-marks : tie.Need-element-copy-out-marks
 element-copy-out-marks c = search needs
 
--- src/equal.rt:87:28
 shl-marks : tie.Need-shl-marks
 shl-marks c = search needs
 
--- src/equal.rt:87:5
 mul-marks-2 : tie.Need-mul-marks-2
 mul-marks-2 c = search needs
 
--- src/equal.rt:87:5
 element-write-marks : tie.Need-element-write-marks
 element-write-marks c = search needs
 
--- src/equal.rt:81:1
 returns : tie.Need-returns
 unfolding markedAt
 returns c = ap (λ x. set (c .before .args .marks .now) (c .before .args .d / 32) (bitOr (getD (c .before .args .marks .now) (c .before .args .d / 32) 0) x)) (shifted (c .before .args .d % 32) (mod-lt _ (omega arith)))

@@ -1,3 +1,4 @@
+-- `stands_before` meets its contract. The invariant: none of the rows passed equals row i. Assumes nothing.
 use mathlib.Core.Path.{_≡_, ap, sym, _∙_}
 use lib.ListN.{length}
 use native.Mathlib.Omega.{arith}
@@ -5,15 +6,10 @@ use borrow.Author.Count.{below-more}
 use Rattle.row_check.proofs.Says.{says-yes, says-no}
 use Rattle.row_check.proofs.Rows.{earlier-fits, row-long}
 use Prim.Native.Nat.{ℕ, _≤_, _<_, _-_}
-use mathlib.Core.Path.{_≡_}
 use borrow.Author.Needs.{needs}
 use Rattle.rules.specs.RowCheck.{rowAt}
 use Rattle.row_check.proofs.equal.stands_before.Statement.{statement}
 use Rattle.row_check.proofs.equal.stands_before.Tie as tie
-use Rattle.row_check.proofs.equal.stands_before.Reads as reads
-use Rattle.row_check.proofs.equal.stands_before.Lts as lts
-use Rattle.row_check.proofs.equal.row_of.Reads as row-of-reads
-use Rattle.row_check.proofs.equal.same_row.Reads as same-row-reads
 
 abbrev Inv-loop : tie.InvT-loop
 Inv-loop rows n i row j₀ j = (j ≤ i) × ((k : ℕ) → k < j → rowAt n rows k ≡ rowAt n rows i → ⊥)
@@ -21,40 +17,31 @@ Inv-loop rows n i row j₀ j = (j ≤ i) × ((k : ℕ) → k < j → rowAt n row
 abbrev μ-loop : tie.MeasureT-loop
 μ-loop rows n i row j₀ j = i - j
 
--- src/equal.rt:39:9
 row-of-requires : tie.Need-row-of-requires Inv-loop μ-loop
 row-of-requires c κs = search needs
 
--- src/equal.rt:41:5
 loop-holds : tie.Need-loop-holds Inv-loop μ-loop
 loop-holds c = search needs
 
--- src/equal.rt:42:13
 row-of-requires-2 : tie.Need-row-of-requires-2 Inv-loop μ-loop
 row-of-requires-2 c κs = earlier-fits (c .before .before .before .before .args .n) (c .before .before .before .before .args .i) (c .before .loop .j) _ (c .loop-test .taken) (c .before .before .before .before .pre)
 
--- src/equal.rt:43:12
 same-row-requires : tie.Need-same-row-requires Inv-loop μ-loop
 same-row-requires c κs = let s = c .before .before .before .before .before in
     ap length (c .row-of2 .ensures) ∙ row-long (s .args .n) (c .before .before .loop .j) (s .args .rows .now) (earlier-fits (s .args .n) (s .args .i) (c .before .before .loop .j) _ (c .before .loop-test .taken) (s .pre)) ∙ sym (ap length (c .before .before .before .row-of .ensures) ∙ row-long (s .args .n) (s .args .i) (s .args .rows .now) (s .pre))
 
--- src/equal.rt:44:13
 returns : tie.Need-returns Inv-loop μ-loop
 returns c = (c .before .before .before .before .loop .j, c .before .before .before .loop-test .taken, sym (c .before .before .row-of2 .ensures) ∙ says-yes _ _ (c .before .same-row .ensures) (c .if1 .taken) ∙ c .before .before .before .before .before .row-of .ensures)
 
--- src/equal.rt:46:9
 add-j : tie.Need-add-j Inv-loop μ-loop
 add-j c = search needs
 
--- src/equal.rt:41:5
 loop-less : tie.Need-loop-less Inv-loop μ-loop
 loop-less c = search needs
 
--- src/equal.rt:41:5
 loop-again : tie.Need-loop-again Inv-loop μ-loop
 loop-again c = (search needs, below-more _ _ (c .before .before .before .before .loop .inv .1) (λ e. says-no _ _ (c .before .same-row .ensures) (c .if1 .left) (c .before .before .row-of2 .ensures ∙ e ∙ sym (c .before .before .before .before .before .row-of .ensures))))
 
--- src/equal.rt:35:1
 returns-2 : tie.Need-returns-2 Inv-loop μ-loop
 returns-2 c = λ r. c .before .loop .inv .1 (r .0) (omega (arith, r .1, c .loop-test .left)) (r .2)
 
