@@ -29,12 +29,12 @@ pub(crate) fn ends_of(sheet: &[u8]) -> Ends
     let m = c.lines as usize;
     let mut first = [0u16; 64];
     let mut second = [0u16; 64];
-    let mut j = 0;
-    while j < m {
-        let l = line_at(sheet, 22 + 6 * n + 20 * j);
-        first[j] = l.first;
-        second[j] = l.second;
-        j += 1;
+    let mut i = 0;
+    while i < m {
+        let l = line_at(sheet, 22 + 6 * n + 20 * i);
+        first[i] = l.first;
+        second[i] = l.second;
+        i += 1;
     }
     Ends {
         first,

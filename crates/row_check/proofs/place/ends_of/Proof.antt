@@ -8,10 +8,10 @@ use Rattle.row_check.proofs.place.ends_of.Statement.{statement}
 use Rattle.row_check.proofs.place.ends_of.Tie as tie
 
 abbrev Inv-loop : tie.InvT-loop
-Inv-loop sheet n m first₀ second₀ j₀ first second j = (j ≤ m) × EndsRead sheet n first second j
+Inv-loop sheet n m first₀ second₀ i₀ first second i = (i ≤ m) × EndsRead sheet n first second i
 
 abbrev μ-loop : tie.MeasureT-loop
-μ-loop sheet n m first₀ second₀ j₀ first second j = m - j
+μ-loop sheet n m first₀ second₀ i₀ first second i = m - i
 
 counts-requires : tie.Need-counts-requires Inv-loop μ-loop
 counts-requires c κs = search needs
@@ -52,8 +52,8 @@ mul-second c = search needs
 array-write-second : tie.Need-array-write-second Inv-loop μ-loop
 array-write-second c = search needs
 
-add-j : tie.Need-add-j Inv-loop μ-loop
-add-j c = search needs
+add-i : tie.Need-add-i Inv-loop μ-loop
+add-i c = search needs
 
 loop-less : tie.Need-loop-less Inv-loop μ-loop
 loop-less c = search needs
@@ -83,7 +83,7 @@ ends-of-spec =
     array-write-first
     mul-second
     array-write-second
-    add-j
+    add-i
     loop-less
     loop-again
     returns)
