@@ -17,7 +17,7 @@ use Rattle.rules.specs.RowCheck.{rowAt, Repeats}
 use Rattle.row_check.specs.Marks.{mixed, digestFrom, digestOf, isMarked, markedAt, Met, Noted}
 
 -- one entry more, and all of them
-pub digest-more : (row : List ℕ) (d i x : ℕ) → i < length row → x ≡ getD row i 0 → digestFrom d (drop i row) ≡ digestFrom 0 row → digestFrom ((d * 2_147_483_629 + x) % 4_294_967_291) (drop (i + 1) row) ≡ digestFrom 0 row
+pub digest-more : (row : List ℕ) (d i x : ℕ) → i < length row → x ≡ getD row i 0 → digestFrom d (drop i row) ≡ digestFrom 0 row → digestFrom ((d * 134_217_689 + x) % 68_719_476_731) (drop (i + 1) row) ≡ digestFrom 0 row
 unfolding digestFrom mixed
 digest-more row d i x h e so = rw (e, add-one) (rw (drop-cons row i 0 h, digestFrom) at so)
 
@@ -29,18 +29,18 @@ digest-end row d i h so = rw (drop-of-length-le row h) at so
 pub shifted : (b : ℕ) → b < 32 → 1 * 2 ^ b % 4_294_967_296 ≡ 2 ^ b
 shifted b h = rw one-mul (mod-eq-of-lt (pow-lt {j = 32} h))
 
--- the two marks of a digest below 2^32
-pub low-small : (d : ℕ) → d % 65_536 < 65_536
+-- the two marks of a digest below 2^36
+pub low-small : (d : ℕ) → d % 262_144 < 262_144
 low-small d = mod-lt d (omega arith)
 
-pub high-small : (d : ℕ) → d < 4_294_967_296 → d / 65_536 < 65_536
-high-small d h = div-lt-iff-lt-mul {k = 65_536} (omega arith) .1 h
+pub high-small : (d : ℕ) → d < 68_719_476_736 → d / 262_144 < 262_144
+high-small d h = div-lt-iff-lt-mul {k = 262_144} (omega arith) .1 h
 
-module _ (marks : List ℕ) (d : ℕ) (long : length marks ≡ 2_048) (small : d < 65_536) where
+module _ (marks : List ℕ) (d : ℕ) (long : length marks ≡ 8_192) (small : d < 262_144) where
   inside : d / 32 < length marks
   inside = omega arith
 
-  pub marked-long : length (markedAt marks d) ≡ 2_048
+  pub marked-long : length (markedAt marks d) ≡ 8_192
   unfolding markedAt
   marked-long = length-set marks (d / 32) (bitOr (getD marks (d / 32) 0) (2 ^ (d % 32))) ∙ long
 
@@ -58,26 +58,26 @@ module _ (marks : List ℕ) (d : ℕ) (long : length marks ≡ 2_048) (small : d
   ]
 
 -- both marks of one row more
-pub noted-more : {n : ℕ} {rows : List ℕ} {i : ℕ} {marks : List ℕ} → Noted n rows i marks → (d : ℕ) → d ≡ digestOf (rowAt n rows i) → d < 4_294_967_296 → Noted n rows (i + 1) (markedAt (markedAt marks (d % 65_536)) (d / 65_536))
+pub noted-more : {n : ℕ} {rows : List ℕ} {i : ℕ} {marks : List ℕ} → Noted n rows i marks → (d : ℕ) → d ≡ digestOf (rowAt n rows i) → d < 68_719_476_736 → Noted n rows (i + 1) (markedAt (markedAt marks (d % 262_144)) (d / 262_144))
 noted-more {n} {rows} {i} {marks} N d e small = record {
-  words = marked-long (markedAt marks (d % 65_536)) (d / 65_536) words₁ (high-small d small);
+  words = marked-long (markedAt marks (d % 262_144)) (d / 262_144) words₁ (high-small d small);
   met = λ j h. elim (ℕ-discrete j i) [
-    | yes q ↦ rw q (subst (λ x. Met both x) e (still (d % 65_536) (marked-itself marks (d % 65_536) (N .words) (low-small d)), marked-itself (markedAt marks (d % 65_536)) (d / 65_536) words₁ (high-small d small)))
+    | yes q ↦ rw q (subst (λ x. Met both x) e (still (d % 262_144) (marked-itself marks (d % 262_144) (N .words) (low-small d)), marked-itself (markedAt marks (d % 262_144)) (d / 262_144) words₁ (high-small d small)))
     | no q ↦ let m = N .met j (omega arith) in (kept _ (m .0), kept _ (m .1))
   ];
 }
   where
-    words₁ : length (markedAt marks (d % 65_536)) ≡ 2_048
-    words₁ = marked-long marks (d % 65_536) (N .words) (low-small d)
+    words₁ : length (markedAt marks (d % 262_144)) ≡ 8_192
+    words₁ = marked-long marks (d % 262_144) (N .words) (low-small d)
 
     both : List ℕ
-    both = markedAt (markedAt marks (d % 65_536)) (d / 65_536)
+    both = markedAt (markedAt marks (d % 262_144)) (d / 262_144)
 
-    still : (x : ℕ) → isMarked (markedAt marks (d % 65_536)) x ≡ true → isMarked both x ≡ true
-    still = marked-still (markedAt marks (d % 65_536)) (d / 65_536) words₁ (high-small d small)
+    still : (x : ℕ) → isMarked (markedAt marks (d % 262_144)) x ≡ true → isMarked both x ≡ true
+    still = marked-still (markedAt marks (d % 262_144)) (d / 262_144) words₁ (high-small d small)
 
     kept : (x : ℕ) → isMarked marks x ≡ true → isMarked both x ≡ true
-    kept x h = still x (marked-still marks (d % 65_536) (N .words) (low-small d) x h)
+    kept x h = still x (marked-still marks (d % 262_144) (N .words) (low-small d) x h)
 
 -- a row equal to an earlier one finds both its marks, so that where one is missing there is no such row
 pub repeats-met : {n : ℕ} {rows : List ℕ} {i : ℕ} {marks : List ℕ} → Noted n rows i marks → (d : ℕ) → d ≡ digestOf (rowAt n rows i) → Repeats n rows i → Met marks d

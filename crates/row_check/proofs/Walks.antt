@@ -19,8 +19,8 @@ pub row-fits : (n i len : ℕ) → i < len / n → i * n + n ≤ len
 row-fits n i len h = omega (arith, suc-mul i n, le-trans (mul-le-mul-right n h) (div-mul-le-self len n))
 
 -- before the first row no mark is asked for
-pub none-noted : (n : ℕ) (rows : List ℕ) → Noted n rows 0 (replicate 2_048 0)
-none-noted n rows = record { words = length-replicate {A = ℕ} 2_048 0; met = λ j h. absurd (omega arith) }
+pub none-noted : (n : ℕ) (rows : List ℕ) → Noted n rows 0 (replicate 8_192 0)
+none-noted n rows = record { words = length-replicate {A = ℕ} 8_192 0; met = λ j h. absurd (omega arith) }
 
 -- a part of the list that is row i is tested against what a row of n entries is
 pub row-against : (n i : ℕ) (rows row t : List ℕ) (size : ℕ) (kinds first second : List ℕ) (m : ℕ) → i * n + n ≤ length rows → row ≡ rowAt n rows i → (F : Figure) (P : Patch) → Against F P t size kinds first second m n → Against F P t size kinds first second m (length row)

@@ -1,4 +1,4 @@
--- The marks of rows' digests: 65,536 bits, two of them for each row met. Assumes nothing: these are definitions.
+-- The marks of rows' digests: 262,144 bits, two of them for each row met. Assumes nothing: these are definitions.
 use Prim.Native.Nat.{ℕ, _+_, _*_, _/_, _%_, _^_, _<_}
 use mathlib.Core.Path.{_≡_}
 use mathlib.Core.Bool.{Bool, true}
@@ -10,7 +10,7 @@ use Rattle.rules.specs.RowCheck.{rowAt}
 
 -- one entry more in a digest
 unfoldable pub mixed : ℕ → ℕ → ℕ
-mixed d x = (d * 2_147_483_629 + x) % 4_294_967_291
+mixed d x = (d * 134_217_689 + x) % 68_719_476_731
 
 -- the digest of a row that goes on from d
 unfoldable pub digestFrom : ℕ → List ℕ → ℕ
@@ -31,9 +31,9 @@ markedAt marks d = set marks (d / 32) (bitOr (getD marks (d / 32) 0) (2 ^ (d % 3
 
 -- both marks of a digest are set
 abbrev pub Met : List ℕ → ℕ → Type 0
-Met marks d = (isMarked marks (d % 65_536) ≡ true) × (isMarked marks (d / 65_536) ≡ true)
+Met marks d = (isMarked marks (d % 262_144) ≡ true) × (isMarked marks (d / 262_144) ≡ true)
 
--- there are 2,048 words of marks, and those of each of the first i rows are set
+-- there are 8,192 words of marks, and those of each of the first i rows are set
 pub record Noted (n : ℕ) (rows : List ℕ) (i : ℕ) (marks : List ℕ) : Type 0 where
-  pub words : length marks ≡ 2_048
+  pub words : length marks ≡ 8_192
   pub met : (j : ℕ) → j < i → Met marks (digestOf (rowAt n rows j))

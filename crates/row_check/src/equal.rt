@@ -54,22 +54,22 @@ fn word(x: u16) -> u64
     x as u64
 }
 
-// A row's digest, below 2^32.
+// A row's digest, below 2^36.
 pub(crate) fn digest(row: &[u16]) -> usize
-    ensures { λ r. ⌜ (r ≡ digestOf (now (row .entry))) × (r < 4_294_967_296) ⌝ }
+    ensures { λ r. ⌜ (r ≡ digestOf (now (row .entry))) × (r < 68_719_476_736) ⌝ }
 {
     let mut d: u64 = 0;
     let mut i = 0;
     while i < row.len() {
-        d = (d * 2147483629 + word(row[i])) % 4294967291;
+        d = (d * 134217689 + word(row[i])) % 68719476731;
         i += 1;
     }
     d as usize
 }
 
 // Whether mark d is set.
-pub(crate) fn is_marked(marks: &[u32; 2048], d: usize) -> bool
-    requires { ⌜ d < 65_536 ⌝ }
+pub(crate) fn is_marked(marks: &[u32; 8192], d: usize) -> bool
+    requires { ⌜ d < 262_144 ⌝ }
     ensures { λ r. ⌜ r ≡ isMarked (now (marks .entry)) d ⌝ }
 {
     let word = marks[d / 32];
@@ -78,8 +78,8 @@ pub(crate) fn is_marked(marks: &[u32; 2048], d: usize) -> bool
 }
 
 // Mark d is set.
-pub(crate) fn mark(marks: &mut [u32; 2048], d: usize)
-    requires { ⌜ (d < 65_536) × (length (now marks) ≡ 2_048) ⌝ }
+pub(crate) fn mark(marks: &mut [u32; 8192], d: usize)
+    requires { ⌜ (d < 262_144) × (length (now marks) ≡ 8_192) ⌝ }
     ensures { λ _. ⌜ now (marks .exit) ≡ markedAt (now (marks .entry)) d ⌝ }
 {
     let k = d / 32;
@@ -88,13 +88,13 @@ pub(crate) fn mark(marks: &mut [u32; 2048], d: usize)
 }
 
 // Whether row i equals an earlier row, where the marks of every earlier row are set; its own are set afterwards too.
-pub(crate) fn repeats(rows: &[u16], n: usize, i: usize, marks: &mut [u32; 2048]) -> bool
+pub(crate) fn repeats(rows: &[u16], n: usize, i: usize, marks: &mut [u32; 8192]) -> bool
     requires { ⌜ (i * n + n ≤ length (now rows)) × Noted n (now rows) i (now marks) ⌝ }
     ensures { λ r. ⌜ Says r (Repeats n (now (rows .entry)) i) × Noted n (now (rows .entry)) (i + 1) (now (marks .exit)) ⌝ }
 {
     let d = digest(row_of(rows, n, i));
-    let low = d % 65536;
-    let high = d / 65536;
+    let low = d % 262144;
+    let high = d / 262144;
     let met_low = is_marked(marks, low);
     let met_high = is_marked(marks, high);
     mark(marks, low);

@@ -42,7 +42,7 @@ fn walk(
     ensures { λ r. ⌜ ((F : Figure) (P : Patch) → Against F P (now (tables .entry)) size (now (kinds .entry)) (now (first .entry)) (now (second .entry)) m n → RowsTested F P (now (rows .entry)) (length (now (rows .entry)) / n) (r .number) (r .row)) ⌝ }
 {
     let count = rows.len() / n;
-    let mut marks = [0u32; 2048];
+    let mut marks = [0u32; 8192];
     let mut i = 0;
     while i < count {
         let row = row_of(rows, n, i);

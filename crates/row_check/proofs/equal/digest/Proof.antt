@@ -11,7 +11,7 @@ use Rattle.row_check.proofs.equal.digest.Statement.{statement}
 use Rattle.row_check.proofs.equal.digest.Tie as tie
 
 abbrev Inv-loop : tie.InvT-loop
-Inv-loop row d₀ i₀ d i = (i ≤ length row) × (d < 4_294_967_291) × (digestFrom d (drop i row) ≡ digestFrom 0 row)
+Inv-loop row d₀ i₀ d i = (i ≤ length row) × (d < 68_719_476_731) × (digestFrom d (drop i row) ≡ digestFrom 0 row)
 
 abbrev μ-loop : tie.MeasureT-loop
 μ-loop row d₀ i₀ d i = length row - i

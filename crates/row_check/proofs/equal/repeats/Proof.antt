@@ -17,7 +17,7 @@ digested c = c .digest .ensures .0 ∙ ap digestOf (c .before .row-of .ensures)
 
 -- both its marks are set
 noted : (c : tie.After-mark2) → Noted (c .before .before .before .before .before .before .before .before .before .before .before .args .n) (c .before .before .before .before .before .before .before .before .before .before .before .args .rows .now) (c .before .before .before .before .before .before .before .before .before .before .before .args .i + 1) (c .mark2 .last .0)
-noted c = subst (Noted (c .before .before .before .before .before .before .before .before .before .before .before .args .n) (c .before .before .before .before .before .before .before .before .before .before .before .args .rows .now) (c .before .before .before .before .before .before .before .before .before .before .before .args .i + 1)) (sym (c .mark2 .ensures ∙ ap (λ ms. markedAt ms (c .before .before .before .before .before .before .before .before .digest .result / 65_536)) (c .before .before .mark .ensures))) (noted-more (c .before .before .before .before .before .before .before .before .before .before .before .pre .1) (c .before .before .before .before .before .before .before .before .digest .result) (digested (c .before .before .before .before .before .before .before .before)) (c .before .before .before .before .before .before .before .before .digest .ensures .1))
+noted c = subst (Noted (c .before .before .before .before .before .before .before .before .before .before .before .args .n) (c .before .before .before .before .before .before .before .before .before .before .before .args .rows .now) (c .before .before .before .before .before .before .before .before .before .before .before .args .i + 1)) (sym (c .mark2 .ensures ∙ ap (λ ms. markedAt ms (c .before .before .before .before .before .before .before .before .digest .result / 262_144)) (c .before .before .mark .ensures))) (noted-more (c .before .before .before .before .before .before .before .before .before .before .before .pre .1) (c .before .before .before .before .before .before .before .before .digest .result) (digested (c .before .before .before .before .before .before .before .before)) (c .before .before .before .before .before .before .before .before .digest .ensures .1))
 
 row-of-requires : tie.Need-row-of-requires
 row-of-requires c κs = search needs
@@ -35,7 +35,7 @@ mark-requires : tie.Need-mark-requires
 mark-requires c κs = (low-small _, c .before .before .before .before .before .before .before .before .pre .1 .words)
 
 mark-requires-2 : tie.Need-mark-requires-2
-mark-requires-2 c κs = (high-small _ (c .before .before .before .before .before .before .before .digest .ensures .1), ap length (c .before .mark .ensures) ∙ marked-long (c .before .before .before .before .before .before .before .before .before .before .args .marks .now) (c .before .before .before .before .before .before .before .digest .result % 65_536) (c .before .before .before .before .before .before .before .before .before .before .pre .1 .words) (low-small _))
+mark-requires-2 c κs = (high-small _ (c .before .before .before .before .before .before .before .digest .ensures .1), ap length (c .before .mark .ensures) ∙ marked-long (c .before .before .before .before .before .before .before .before .before .before .args .marks .now) (c .before .before .before .before .before .before .before .digest .result % 262_144) (c .before .before .before .before .before .before .before .before .before .before .pre .1 .words) (low-small _))
 
 returns : tie.Need-returns
 returns c = (λ r. false≢true (sym (not-true (c .before .before .before .before .before .before .before .is-marked .result) (c .if1 .taken)) ∙ c .before .before .before .before .before .before .before .is-marked .ensures ∙ repeats-met (c .before .before .before .before .before .before .before .before .before .before .before .before .pre .1) (c .before .before .before .before .before .before .before .before .before .digest .result) (digested (c .before .before .before .before .before .before .before .before .before)) r .0), noted (c .before))
