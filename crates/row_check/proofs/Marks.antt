@@ -17,7 +17,7 @@ use Rattle.rules.specs.RowCheck.{rowAt, Repeats}
 use Rattle.row_check.specs.Marks.{mixed, digestFrom, digestOf, isMarked, markedAt, Met, Noted}
 
 -- one entry more, and all of them
-pub digest-more : (row : List ℕ) (d i x : ℕ) → i < length row → x ≡ getD row i 0 → digestFrom d (drop i row) ≡ digestFrom 0 row → digestFrom ((d * 134_217_689 + x) % 68_719_476_731) (drop (i + 1) row) ≡ digestFrom 0 row
+pub digest-more : (row : List ℕ) (d i x : ℕ) → i < length row → x ≡ getD row i 0 → digestFrom d (drop i row) ≡ digestFrom 0 row → digestFrom ((d + x) * 92_821_457 % 68_719_476_731) (drop (i + 1) row) ≡ digestFrom 0 row
 unfolding digestFrom mixed
 digest-more row d i x h e so = rw (e, add-one) (rw (drop-cons row i 0 h, digestFrom) at so)
 

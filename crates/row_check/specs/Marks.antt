@@ -10,7 +10,7 @@ use Rattle.rules.specs.RowCheck.{rowAt}
 
 -- one entry more in a digest
 unfoldable pub mixed : ℕ → ℕ → ℕ
-mixed d x = (d * 134_217_689 + x) % 68_719_476_731
+mixed d x = (d + x) * 92_821_457 % 68_719_476_731
 
 -- the digest of a row that goes on from d
 unfoldable pub digestFrom : ℕ → List ℕ → ℕ

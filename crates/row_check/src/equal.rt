@@ -54,14 +54,14 @@ fn word(x: u16) -> u64
     x as u64
 }
 
-// A row's digest, below 2^36.
+// A row's digest, below 2^36: every entry, the last too, tells in its upper and in its lower half.
 pub(crate) fn digest(row: &[u16]) -> usize
     ensures { λ r. ⌜ (r ≡ digestOf (now (row .entry))) × (r < 68_719_476_736) ⌝ }
 {
     let mut d: u64 = 0;
     let mut i = 0;
     while i < row.len() {
-        d = (d * 134217689 + word(row[i])) % 68719476731;
+        d = (d + word(row[i])) * 92821457 % 68719476731;
         i += 1;
     }
     d as usize

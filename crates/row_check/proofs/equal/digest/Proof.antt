@@ -19,9 +19,6 @@ abbrev μ-loop : tie.MeasureT-loop
 loop-holds : tie.Need-loop-holds Inv-loop μ-loop
 loop-holds c = search needs
 
-mul-d : tie.Need-mul-d Inv-loop μ-loop
-mul-d c = search needs
-
 mul-word : tie.Need-mul-word Inv-loop μ-loop
 mul-word c = search needs
 
@@ -33,6 +30,9 @@ word-requires c κs = search needs
 
 add-d : tie.Need-add-d Inv-loop μ-loop
 add-d c = omega (arith, c .word .ensures, c .before .shared-slice-known2 .given (c .before .before .before .loop .i), c .before .before .before .loop .inv .1)
+
+mul-d : tie.Need-mul-d Inv-loop μ-loop
+mul-d c = omega (arith, c .word .ensures, c .before .shared-slice-known2 .given (c .before .before .before .loop .i), c .before .before .before .loop .inv .1)
 
 add-i : tie.Need-add-i Inv-loop μ-loop
 add-i c = search needs
@@ -53,11 +53,11 @@ digest-spec =
     Inv-loop
     μ-loop
     loop-holds
-    mul-d
     mul-word
     shared-slice-read-word
     word-requires
     add-d
+    mul-d
     add-i
     loop-less
     loop-again
