@@ -1,5 +1,5 @@
-/* Gelquorist from C: the search for the places of a figure in a patch, and the reader and the
- * writer of sheets. Link libexports.a, as `rt staticlib exports` writes it (x86-64).
+/* Gelquorist from C: the search for the places of a figure in a patch, the check of rows that come
+ * from elsewhere, and the reader and the writer of sheets. Link libexports.a, as `rt staticlib exports` writes it (x86-64).
  *
  * Every promise below is proved of the library, for all inputs; none of the calls has a
  * precondition beyond what C itself asks: each pointer is valid for its length (any pointer not
@@ -40,7 +40,10 @@ enum {
     GELQUORIST_MEMORY = 31,         /* working memory too short */
     GELQUORIST_OUTPUT = 33,         /* reader's or writer's lent output too short */
     GELQUORIST_THIRDS = 34,         /* writer's line list not a multiple of three */
-    GELQUORIST_KIND = 35            /* writer's kind above 63 */
+    GELQUORIST_KIND = 35,           /* writer's kind above 63 */
+    GELQUORIST_PART_ROW = 42,       /* list of rows not a whole number of rows */
+    GELQUORIST_NOT_A_PLACE = 43,    /* a row is not a place */
+    GELQUORIST_REPEATED = 44        /* a row equals an earlier row */
 };
 
 enum {
@@ -76,6 +79,25 @@ struct gelquorist_found gelquorist_find(const uint8_t *figure, size_t figure_len
                                         uint16_t *memory, size_t memory_length,
                                         uint16_t *list, size_t list_length,
                                         uint32_t allowance);
+
+struct gelquorist_checked {
+    uint16_t number; /* 0, 11 to 16, 21 to 25 or 42 to 44 */
+    size_t row;      /* the first bad row, counted from 0; 0 in every answer but 43 and 44 */
+};
+
+/* Checks a list of rows, in whatever order and whoever made them.
+ *
+ * - number 0: every row is a place of the figure in the patch, as said of gelquorist_find, and no
+ *   two rows are equal. It says nothing of places that the list lacks.
+ * - 43: row is the first bad row and is not a place. 44: row is the first bad row, and a place, and
+ *   equal to an earlier row. Every row before it is a place, and no two of those are equal.
+ * - Order: the figure's checks, the patch's, 42 where rows_length is no multiple of the figure's n,
+ *   then row by row 43 before 44.
+ * - Whatever gelquorist_find lists is accepted: rows * n numbers of its list after 0, 1 or 2.
+ * - Nothing lent is written, and no memory is asked for: it uses some 20,000 bytes of the stack. */
+struct gelquorist_checked gelquorist_check_rows(const uint8_t *figure, size_t figure_length,
+                                                const uint8_t *patch, size_t patch_length,
+                                                const uint16_t *rows, size_t rows_length);
 
 struct gelquorist_read {
     uint16_t number;   /* 0, 21 to 25 or 33 */

@@ -1,4 +1,4 @@
-/* Links the library once from C: bench c, two refusals and a round trip. Exit status 1 on any
+/* Links the library once from C: bench c, two refusals, its rows checked and a round trip. Exit status 1 on any
  * disagreement with document 01. */
 #include "../gelquorist.h"
 #include <stdio.h>
@@ -75,11 +75,26 @@ static void round_trip(const uint8_t *patch, size_t length) {
     expect(memcmp(again, patch, length) == 0 && again[length] == 0xa5, "the same sheet again");
 }
 
+/* Bench c's rows, then with a row twice, with a row that is no place, and with part of a row. */
+static void rows_checked(const uint8_t *patch, size_t length) {
+    const uint16_t rows[] = {0, 1, 0, 2, 0, 1};
+    struct gelquorist_checked checked = gelquorist_check_rows(figure, sizeof figure, patch, length, rows, 4);
+    expect(checked.number == GELQUORIST_COMPLETE && checked.row == 0, "bench c's rows accepted");
+    checked = gelquorist_check_rows(figure, sizeof figure, patch, length, rows, 6);
+    expect(checked.number == GELQUORIST_REPEATED && checked.row == 2, "44");
+    checked = gelquorist_check_rows(figure, sizeof figure, patch, length, rows, 5);
+    expect(checked.number == GELQUORIST_PART_ROW && checked.row == 0, "42");
+    const uint16_t other[] = {0, 1, 0, 2, 0, 65535};
+    checked = gelquorist_check_rows(figure, sizeof figure, patch, length, other, 6);
+    expect(checked.number == GELQUORIST_NOT_A_PLACE && checked.row == 2, "43");
+}
+
 int main(void) {
     uint8_t patch[16];
     size_t length = patch_of_c(patch, sizeof patch);
     bench_c(patch, length);
     refusals(patch, length);
+    rows_checked(patch, length);
     round_trip(patch, length);
     printf("from C: %d disagreements\n", faults);
     return faults == 0 ? 0 : 1;

@@ -1,4 +1,4 @@
-//! The three calls, as every implementation here offers them. The answers are laid out as in C,
+//! The four calls, as every implementation here offers them. The answers are laid out as in C,
 //! since the library returns them by value across the C calling convention.
 
 /// What the search returns: the number, the rows written, the tries spent.
@@ -27,6 +27,14 @@ pub struct Written {
     pub count: usize,
 }
 
+/// What the check of rows returns: the number, and the first bad row or 0.
+#[repr(C)]
+#[derive(Clone, Copy, Debug, PartialEq, Eq)]
+pub struct Checked {
+    pub number: u16,
+    pub row: usize,
+}
+
 /// The least length of the working memory, in 16-bit numbers.
 pub const MEMORY: usize = 22_528;
 
@@ -48,10 +56,17 @@ impl Written {
     }
 }
 
-/// An implementation of document 01's calls.
+impl Checked {
+    pub fn refused(number: u16) -> Checked {
+        Checked { number, row: 0 }
+    }
+}
+
+/// An implementation of document 01's calls, and of document 02's check of rows.
 pub trait Calls {
     fn name(&self) -> &'static str;
     fn find(&self, figure: &[u8], patch: &[u8], memory: &mut [u16], list: &mut [u16], allowance: u32) -> Found;
     fn read(&self, sheet: &[u8], kinds: &mut [u16], lines: &mut [u16]) -> Read;
     fn write(&self, kinds: &[u16], lines: &[u16], bytes: &mut [u8]) -> Written;
+    fn check_rows(&self, figure: &[u8], patch: &[u8], rows: &[u16]) -> Checked;
 }

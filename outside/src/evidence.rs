@@ -1,7 +1,7 @@
 //! The comparisons. Each part draws cases from a printed seed, asks one implementation and the
 //! independent ones, and counts every disagreement; nothing is taken on trust from the one asked.
 
-use crate::calls::{Calls, Found, MEMORY};
+use crate::calls::{Calls, Checked, Found, MEMORY};
 use crate::model::{self, Model};
 use crate::random::Random;
 use crate::sheet::{encode, Graph};
@@ -267,6 +267,101 @@ impl<'a> Evidence<'a> {
             self.round_trip(&figure);
             self.round_trip(&patch);
             self.note("round trips", 2);
+        }
+    }
+
+    /// One list of rows beside the model's check. The list is only read, so that nothing is left to compare.
+    fn compare_rows(&mut self, part: &'static str, figure: &[u8], patch: &[u8], rows: &[u16]) -> Checked {
+        let got = self.calls.check_rows(figure, patch, rows);
+        let expected = Model.check_rows(figure, patch, rows);
+        self.count(part, expected.number);
+        if got != expected {
+            let about = format!("{part}: figure {} patch {} rows {rows:?}: got {got:?}, expected {expected:?}", hex(figure), hex(patch));
+            self.fault("the check of rows", &about);
+        }
+        got
+    }
+
+    /// The search's own list, then the same list shuffled, edited, with a row twice, and cut.
+    fn row_list(&mut self, figure: &Graph, patch: &Graph, tries: u32) {
+        let n = figure.n();
+        let (f, p) = (encode(figure), encode(patch));
+        let own = self.rows(&f, &p, tries as usize, n, tries).1;
+        self.most("rows in a list", (own.len() / n) as u64);
+        if self.compare_rows("rows, own", &f, &p, &own) != Checked::refused(0) {
+            self.fault("a list of the search is accepted", &format!("{} {}", hex(&f), hex(&p)));
+        }
+        let shuffled = self.shuffled_rows(&own, n);
+        self.compare_rows("rows, shuffled", &f, &p, &shuffled);
+        let twice = self.row_twice(&shuffled, n);
+        self.compare_rows("rows, one twice", &f, &p, &twice);
+        for _ in 0..3 {
+            let edited = self.edited_rows(&twice, n, patch.n());
+            self.compare_rows("rows, edited", &f, &p, &edited);
+            let edited = self.edited_rows(&shuffled, n, patch.n());
+            self.compare_rows("rows, edited", &f, &p, &edited);
+        }
+        let cut = &twice[..self.random.below(twice.len() + 1)];
+        self.compare_rows("rows, cut", &f, &p, cut);
+    }
+
+    fn shuffled_rows(&mut self, rows: &[u16], n: usize) -> Vec<u16> {
+        let order = self.random.shuffled(rows.len() / n);
+        order.iter().flat_map(|&i| rows[i * n..(i + 1) * n].to_vec()).collect()
+    }
+
+    /// A row of the list once more, anywhere in it.
+    fn row_twice(&mut self, rows: &[u16], n: usize) -> Vec<u16> {
+        let count = rows.len() / n;
+        let mut made = rows.to_vec();
+        if count > 0 {
+            let from = self.random.below(count) * n;
+            let to = self.random.below(count + 1) * n;
+            let row = rows[from..from + n].to_vec();
+            made.splice(to..to, row);
+        }
+        made
+    }
+
+    /// One or two entries changed: to one past the last vertex, any number, an entry nearby, the same entry of
+    /// another row, or any patch vertex.
+    fn edited_rows(&mut self, rows: &[u16], n: usize, vertices: usize) -> Vec<u16> {
+        let mut made = rows.to_vec();
+        for _ in 0..self.random.between(1, 2) {
+            if made.is_empty() {
+                break;
+            }
+            let at = self.random.below(made.len());
+            let near = (at + self.random.below(4)).min(made.len() - 1);
+            let other = (at + n * self.random.below(made.len())) % made.len();
+            made[at] = match self.random.below(10) {
+                0 => vertices as u16,
+                1 => self.random.next() as u16,
+                2 | 3 => made[near],
+                4..=7 => made[other],
+                _ => self.random.below(vertices) as u16,
+            };
+        }
+        made
+    }
+
+    /// Row lists for `count` pairs of sheets, one in a hundred with thousands of rows, and some broken sheets.
+    pub fn row_lists(&mut self, count: u64) {
+        for i in 0..count {
+            if i % 100 == 99 {
+                let n = self.random.between(2, 3);
+                let patch = graphs::plain(&mut self.random, 300, 1_200, &[1, 2]);
+                let figure = graphs::part(&mut self.random, &patch, n, 100);
+                self.row_list(&figure, &patch, 6_000);
+            } else {
+                let (figure, patch) = draw(&mut self.random, i as usize % 20);
+                self.row_list(&figure, &patch, 200);
+                let (f, p) = (damage::sheet(&mut self.random, &figure), damage::sheet(&mut self.random, &patch));
+                let length = self.random.below(4 * figure.n());
+                let rows = self.dirt(length);
+                let (f, p) = if self.random.chance(50) { (f, encode(&patch)) } else { (encode(&figure), p) };
+                self.compare_rows("rows, broken sheets", &f, &p, &rows);
+            }
         }
     }
 

@@ -1,5 +1,5 @@
-//! Evidence from outside. What document 01 says is written here once more, in plain Rust and from
-//! that page alone, and compared with the proved library on random and on damaged input.
+//! Evidence from outside. What documents 01 and 02 say is written here once more, in plain Rust and
+//! from those pages alone, and compared with the proved library on random and on damaged input.
 //! It uses no crate of a registry and compiles with rustc 1.63.
 
 pub mod calls;
@@ -11,5 +11,7 @@ pub mod hold;
 pub mod matcher;
 pub mod model;
 pub mod plain;
+pub mod plain_rows;
 pub mod random;
+pub mod rows;
 pub mod sheet;

@@ -2,7 +2,7 @@
 //! answers come back by value. The library writes only through the two (or one) `&mut` slices of a
 //! call, within their lengths, and keeps no pointer: so it is proved, and so the slices here allow.
 
-use outside::calls::{Calls, Found, Read, Written};
+use outside::calls::{Calls, Checked, Found, Read, Written};
 
 #[link(name = "exports", kind = "static")]
 extern "C" {
@@ -33,6 +33,14 @@ extern "C" {
         bytes: *mut u8,
         bytes_length: usize,
     ) -> Written;
+    fn gelquorist_check_rows(
+        figure: *const u8,
+        figure_length: usize,
+        patch: *const u8,
+        patch_length: usize,
+        rows: *const u16,
+        rows_length: usize,
+    ) -> Checked;
 }
 
 /// The search: every place of the figure in the patch, as rows in the list.
@@ -65,6 +73,13 @@ pub fn write(kinds: &[u16], lines: &[u16], bytes: &mut [u8]) -> Written {
     unsafe { gelquorist_write(kinds.as_ptr(), kinds.len(), lines.as_ptr(), lines.len(), bytes.as_mut_ptr(), bytes.len()) }
 }
 
+/// The check of rows that someone else made: whether each is a place and no two are equal. It writes
+/// nothing.
+pub fn check_rows(figure: &[u8], patch: &[u8], rows: &[u16]) -> Checked {
+    // Each pointer is valid for its length, and the call only reads.
+    unsafe { gelquorist_check_rows(figure.as_ptr(), figure.len(), patch.as_ptr(), patch.len(), rows.as_ptr(), rows.len()) }
+}
+
 /// The library as an implementation.
 pub struct Library;
 
@@ -83,5 +98,9 @@ impl Calls for Library {
 
     fn write(&self, kinds: &[u16], lines: &[u16], bytes: &mut [u8]) -> Written {
         write(kinds, lines, bytes)
+    }
+
+    fn check_rows(&self, figure: &[u8], patch: &[u8], rows: &[u16]) -> Checked {
+        check_rows(figure, patch, rows)
     }
 }

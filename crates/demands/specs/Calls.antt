@@ -1,14 +1,16 @@
--- Calls of `find`, `read` and `write` as they were made: what was handed and lent, what came back, and what is lent afterwards. Assumes nothing: these are definitions.
+-- Calls of `find`, `read`, `write` and `check_rows` as they were made: what was handed and lent, what came back, and what is lent afterwards. Assumes nothing: these are definitions.
 use Prim.Native.Nat.{ℕ}
 use mathlib.Core.Path.{_≡_}
 use mathlib.Core.List.{List}
 use Rattle.rules.specs.Place.{Figure, Patch, PatchVertex}
 use Rattle.rules.specs.Calls.{reader, writer, figureOf, patchOf, found}
+use Rattle.rules.specs.RowCheck.{RowsChecked}
 use Rattle.sheet.specs.Answers.{asRead, asWritten}
 use Rattle.sheet.specs.declared.reader.ReadAnswer.{ReadAnswer}
 use Rattle.sheet.specs.declared.writer.WriteAnswer.{WriteAnswer}
 use Rattle.find.specs.Answers.{Finds, asSearched}
 use Rattle.find.specs.declared.Found.{Found}
+use Rattle.row_check.specs.declared.Checked.{Checked}
 
 -- what a call of `find` is handed and lent
 pub record Asked : Type 0 where
@@ -74,3 +76,17 @@ pub record WriteGiven : Type 0 where
 -- the contract of `write` allows a result
 abbrev pub WriteAllows : WriteAsked → WriteGiven → Type 0
 WriteAllows a g = asWritten (g .answer) (g .bytes) ≡ writer (a .kinds) (a .lines) (a .bytes)
+
+-- what a call of `check_rows` is handed; nothing is lent to it
+pub record RowsAsked : Type 0 where
+  pub figure : List ℕ
+  pub patch : List ℕ
+  pub rows : List ℕ
+
+-- the contract of `check_rows` allows an answer
+abbrev pub RowsAllows : RowsAsked → Checked → Type 0
+RowsAllows a r = RowsChecked (a .figure) (a .patch) (a .rows) (r .number) (r .row)
+
+-- a function that would meet the contract of `check_rows`
+abbrev pub RowsMeets : (RowsAsked → Checked) → Type 0
+RowsMeets f = (a : RowsAsked) → RowsAllows a (f a)

@@ -2,8 +2,10 @@
 // the crate below it, with its answer laid out as in C.
 ghost use mathlib.Core.Path.{_≡_};
 ghost use Rattle.rules.specs.Calls.{search, reader, writer};
+ghost use Rattle.rules.specs.RowCheck.{RowsChecked};
 ghost use Rattle.exports.specs.Answers.{asSearched, asRead, asWritten};
 use find::find;
+use row_check::check_rows;
 use sheet::reader::read;
 use sheet::writer::write;
 
@@ -28,6 +30,13 @@ pub struct Read {
 pub struct Written {
     pub number: u16,
     pub count: usize,
+}
+
+// What the check of rows returns: its number, and the first bad row or 0.
+#[repr(C)]
+pub struct Checked {
+    pub number: u16,
+    pub row: usize,
 }
 
 #[no_mangle]
@@ -68,5 +77,16 @@ pub extern "C" fn gelquorist_write(kinds: &[u16], lines: &[u16], bytes: &mut [u8
     Written {
         number: answer.number,
         count: answer.count,
+    }
+}
+
+#[no_mangle]
+pub extern "C" fn gelquorist_check_rows(figure: &[u8], patch: &[u8], rows: &[u16]) -> Checked
+    ensures { λ r. ⌜ RowsChecked (now (figure .entry)) (now (patch .entry)) (now (rows .entry)) (r .number) (r .row) ⌝ }
+{
+    let answer = check_rows(figure, patch, rows);
+    Checked {
+        number: answer.number,
+        row: answer.row,
     }
 }

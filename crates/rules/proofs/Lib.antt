@@ -30,3 +30,4 @@ pub mod Calls
 pub mod RoundTrip
 pub mod ReadWrite
 pub mod Demands
+pub mod RowCheck

@@ -8,4 +8,5 @@ pub mod Tries
 pub mod Partials
 pub mod Answer
 pub mod Calls
+pub mod RowCheck
 pub mod Benches

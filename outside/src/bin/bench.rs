@@ -1,6 +1,7 @@
 //! Speed: whole calls, sheets in memory to answer, memory zeroed; medians.
+//! The group "row" is the check of rows, its time a row.
 //! bench cases FILE: writes the cases for the peers. bench times: a line for each case and each
-//! implementation of this build. bench sizes: cost against lines and against tries.
+//! implementation of this build. bench rows: those of the row check alone. bench sizes: cost against lines and against tries.
 
 #![allow(unknown_lints, unexpected_cfgs)]
 
@@ -172,11 +173,49 @@ fn measure(figure: &[u8], patch: &[u8], allowance: u32) -> Vec<(&'static str, f6
             of.push(asked.batch(&**calls, turns));
         }
     }
-    let median = |mut of: Vec<f64>| {
-        of.sort_by(|a, b| a.partial_cmp(b).unwrap());
-        of[of.len() / 2]
-    };
     all.iter().zip(times).zip(answers).map(|((calls, of), found)| (calls.name(), median(of), found)).collect()
+}
+
+/// Lists of 1,000 to 10,000 rows of the search's own, shuffled, and their time a row.
+fn row_lists() {
+    let mut random = Random::new(SEED);
+    let (mut memory, mut list) = (vec![0; MEMORY], vec![0; LIST]);
+    let mut index = 0;
+    while index < 12 {
+        let n = random.between(64, 512);
+        let patch = graphs::plain(&mut random, n, 3 * n, &[1, 2, 3]);
+        let n = random.between(3, 16);
+        let figure = graphs::part(&mut random, &patch, n, 80);
+        let (f, p) = (encode(&figure), encode(&patch));
+        let found = Plain.find(&f, &p, &mut memory, &mut list[..10_000 * n], 200_000);
+        if found.number > 2 || found.rows < 1_000 {
+            continue;
+        }
+        let rows: Vec<u16> = random.shuffled(found.rows).iter().flat_map(|&i| list[i * n..(i + 1) * n].to_vec()).collect();
+        for (name, ns) in measure_rows(&f, &p, &rows) {
+            println!("row {index} {name} {:.1} {} 0", ns / found.rows as f64, found.rows);
+        }
+        index += 1;
+    }
+}
+
+/// The median time of one check of the whole list, for each implementation, taking turns.
+fn measure_rows(figure: &[u8], patch: &[u8], rows: &[u16]) -> Vec<(&'static str, f64)> {
+    let all = implementations();
+    let mut times = vec![Vec::new(); all.len()];
+    for _ in 0..51 {
+        for (calls, of) in all.iter().zip(&mut times) {
+            let start = Instant::now();
+            assert_eq!(hold(calls.check_rows(hold(figure), hold(patch), hold(rows))).number, 0);
+            of.push(start.elapsed().as_nanos() as f64);
+        }
+    }
+    all.iter().zip(times).map(|(calls, of)| (calls.name(), median(of))).collect()
+}
+
+fn median(mut of: Vec<f64>) -> f64 {
+    of.sort_by(|a, b| a.partial_cmp(b).unwrap());
+    of[of.len() / 2]
 }
 
 fn times() {
@@ -186,6 +225,7 @@ fn times() {
             println!("{} {index} {name} {ns:.0} {} {}", case.group, found.rows, found.tries);
         }
     }
+    row_lists();
 }
 
 /// Cost against lines on easy calls, and against tries on one hard graph.
@@ -219,7 +259,8 @@ fn main() {
             std::fs::write(&arguments[1], all).unwrap();
         }
         Some("times") => times(),
+        Some("rows") => row_lists(),
         Some("sizes") => sizes(),
-        _ => panic!("bench cases FILE, bench times or bench sizes"),
+        _ => panic!("bench cases FILE, bench times, bench rows or bench sizes"),
     }
 }

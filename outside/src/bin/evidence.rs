@@ -54,6 +54,7 @@ fn share(calls: &(dyn Calls + Sync), seed: u64, shares: [u64; 3]) -> Evidence<'_
     evidence.damaged_cases(shares[1]);
     evidence.two_calls(shares[2]);
     evidence.round_trips(shares[2]);
+    evidence.row_lists(shares[2] / 2);
     evidence
 }
 

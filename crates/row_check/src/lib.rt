@@ -1,0 +1,103 @@
+// The check of a list of rows, whoever made it: accepted exactly if every row is a place and no two rows are equal.
+ghost use mathlib.Core.Path.{_≡_};
+ghost use Prim.Native.Nat.{_/_, _<_};
+ghost use lib.ListN.{length};
+ghost use Rattle.rules.specs.Checks.{Accepted, figureLimits, verdict};
+ghost use Rattle.rules.specs.Place.{Figure, Patch};
+ghost use Rattle.rules.specs.Calls.{figureOf};
+ghost use Rattle.rules.specs.RowCheck.{rowChecks, rowCount, RowsTested, RowsChecked};
+ghost use Rattle.patch.specs.Tables.{Holds};
+ghost use Rattle.row_check.specs.Against.{Against};
+use crate::equal::repeats;
+use crate::equal::row_of;
+use crate::place::ends_of;
+use crate::place::is_place;
+use figure::check_whole;
+use figure::load_figure;
+use patch::load;
+use sheet::check::check_patch;
+use sheet::fields::counts;
+
+mod equal;
+mod place;
+
+// What comes back: the number, and the first bad row counted from 0, which is 0 in every other answer.
+pub struct Checked {
+    pub number: u16,
+    pub row: usize,
+}
+
+// Each row in its turn: whether it is a place, then whether it equals an earlier row.
+fn walk(
+    tables: &[u16],
+    size: u16,
+    kinds: &[u16; 32],
+    first: &[u16; 64],
+    second: &[u16; 64],
+    m: usize,
+    n: usize,
+    rows: &[u16],
+) -> Checked
+    requires { ⌜ ((F : Figure) × ((P : Patch) × Against F P (now tables) size (now kinds) (now first) (now second) m n)) ⌝ }
+    ensures { λ r. ⌜ ((F : Figure) (P : Patch) → Against F P (now (tables .entry)) size (now (kinds .entry)) (now (first .entry)) (now (second .entry)) m n → RowsTested F P (now (rows .entry)) (length (now (rows .entry)) / n) (r .number) (r .row)) ⌝ }
+{
+    let count = rows.len() / n;
+    let mut marks = [0u32; 8192];
+    let mut i = 0;
+    while i < count {
+        let row = row_of(rows, n, i);
+        if !is_place(tables, size, kinds, first, second, m, row) {
+            return Checked { number: 43, row: i };
+        }
+        if repeats(rows, n, i, &mut marks) {
+            return Checked { number: 44, row: i };
+        }
+        i += 1;
+    }
+    Checked { number: 0, row: 0 }
+}
+
+// The rows against a loaded patch of `size` vertices, for the figure of a checked sheet.
+fn test_rows(figure: &[u8], tables: &[u16], size: u16, rows: &[u16]) -> Checked
+    requires { ⌜ Accepted figureLimits (now figure) × ((P : Patch) × Holds P (now tables) × (P .graph .size ≡ size)) ⌝ }
+    ensures { λ r. ⌜ ((P : Patch) → Holds P (now (tables .entry)) → P .graph .size ≡ size → RowsTested (figureOf (now (figure .entry))) P (now (rows .entry)) (rowCount (now (figure .entry)) (now (rows .entry))) (r .number) (r .row)) ⌝ }
+{
+    let f = load_figure(figure);
+    let e = ends_of(figure);
+    let kinds = f.kinds;
+    let first = e.first;
+    let second = e.second;
+    walk(tables, size, &kinds, &first, &second, e.count, f.n, rows)
+}
+
+// The number of the checks before the rows': the figure's, the patch's, then 42.
+fn check_before(figure: &[u8], patch: &[u8], rows: &[u16]) -> u16
+    ensures { λ r. ⌜ r ≡ verdict (rowChecks (now (figure .entry)) (now (patch .entry)) (now (rows .entry))) ⌝ }
+{
+    let f = check_whole(figure);
+    if f.number != 0 {
+        return f.number;
+    }
+    let p = check_patch(patch);
+    if p.number != 0 {
+        return p.number;
+    }
+    let n = counts(figure).vertices as usize;
+    if rows.len() % n != 0 {
+        return 42;
+    }
+    0
+}
+
+pub fn check_rows(figure: &[u8], patch: &[u8], rows: &[u16]) -> Checked
+    ensures { λ r. ⌜ RowsChecked (now (figure .entry)) (now (patch .entry)) (now (rows .entry)) (r .number) (r .row) ⌝ }
+{
+    let number = check_before(figure, patch, rows);
+    if number != 0 {
+        return Checked { number, row: 0 };
+    }
+    let mut tables = [0u16; 5122];
+    load(patch, &mut tables);
+    let c = counts(patch);
+    test_rows(figure, &tables, c.vertices, rows)
+}
