@@ -22,7 +22,7 @@ pub struct Ran {
 }
 
 // Whether every number of a list is x.
-pub fn all(xs: &[u16], x: u16) -> bool {
+fn all(xs: &[u16], x: u16) -> bool {
     let mut i = 0;
     while i < xs.len() {
         if xs[i] != x {
