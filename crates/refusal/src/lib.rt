@@ -1,4 +1,5 @@
 // A refusal in words, on standard error: the line of the text where there is one, the number, and what it means. Numbers from 71 on are of the text alone (docs/TEXT.md), the others document 01's.
+ghost use mathlib.Core.Path.{_≡_};
 use libc::STDERR_FILENO;
 
 fn tell(words: &[u8]) {
@@ -41,17 +42,22 @@ fn tell_of(number: u16) {
     }
 }
 
-// A refusal of a sheet.
-pub fn say(number: u16) {
+// A refusal of a sheet; the number said.
+pub fn say(number: u16) -> u16
+    ensures { λ r. ⌜ r ≡ number ⌝ }
+{
     io::print_decimal(STDERR_FILENO, number as u64);
     io::write_all(STDERR_FILENO, b": ");
     tell_of(number);
+    number
 }
 
-// A refusal of a text, about one of its lines.
-pub fn say_line(line: usize, number: u16) {
+// A refusal of a text, about one of its lines; the number said.
+pub fn say_line(line: usize, number: u16) -> u16
+    ensures { λ r. ⌜ r ≡ number ⌝ }
+{
     io::write_all(STDERR_FILENO, b"line ");
     io::print_decimal(STDERR_FILENO, line as u64);
     io::write_all(STDERR_FILENO, b": ");
-    say(number);
+    say(number)
 }

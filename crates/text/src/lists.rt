@@ -12,69 +12,55 @@ pub struct Parsed {
     pub numbers: usize,
 }
 
-// A refusal: nothing more is listed.
-fn refused(so: Parsed, number: u16) -> Parsed
-    ensures { λ r. ⌜ (r .kinds ≤ so .kinds) × (r .numbers ≤ so .numbers) ⌝ }
-{
-    Parsed {
-        number,
-        line: so.line,
-        kinds: so.kinds,
-        numbers: so.numbers,
-    }
-}
-
 // One vertex more, which has to bear the next number (76); 22 where the list is full.
-fn add_vertex(so: Parsed, i: u16, kind: u16, kinds: &mut [u16]) -> Parsed
-    requires { ⌜ so .kinds ≤ length (now kinds) ⌝ }
-    ensures { λ r. ⌜ (r .kinds ≤ length (now (kinds .exit))) × (r .numbers ≤ so .numbers) ⌝ }
+fn add_vertex(mut listed: Parsed, i: u16, kind: u16, kinds: &mut [u16]) -> Parsed
+    requires { ⌜ listed .kinds ≤ length (now kinds) ⌝ }
+    ensures { λ r. ⌜ (r .kinds ≤ length (now (kinds .exit))) × (r .numbers ≤ listed .numbers) ⌝ }
 {
-    let n = so.kinds;
+    let n = listed.kinds;
     if i as usize != n {
-        return refused(so, 76);
+        listed.number = 76;
+        return listed;
     }
     if n < kinds.len() {
         kinds[n] = kind;
-        return Parsed {
-            number: 0,
-            line: so.line,
-            kinds: n + 1,
-            numbers: so.numbers,
-        };
+        listed.kinds = n + 1;
+        return listed;
     }
-    refused(so, 22)
+    listed.number = 22;
+    listed
 }
 
 // One line more; 22 where the list is full.
-fn add_line(so: Parsed, sort: u16, first: u16, second: u16, lines: &mut [u16]) -> Parsed
-    requires { ⌜ so .numbers ≤ length (now lines) ⌝ }
-    ensures { λ r. ⌜ (r .numbers ≤ length (now (lines .exit))) × (r .kinds ≤ so .kinds) ⌝ }
+fn add_line(mut listed: Parsed, sort: u16, first: u16, second: u16, lines: &mut [u16]) -> Parsed
+    requires { ⌜ listed .numbers ≤ length (now lines) ⌝ }
+    ensures { λ r. ⌜ (r .numbers ≤ length (now (lines .exit))) × (r .kinds ≤ listed .kinds) ⌝ }
 {
-    let k = so.numbers;
+    let k = listed.numbers;
     if lines.len() - k < 3 {
-        return refused(so, 22);
+        listed.number = 22;
+        return listed;
     }
     lines[k] = sort;
     lines[k + 1] = first;
     lines[k + 2] = second;
-    Parsed {
-        number: 0,
-        line: so.line,
-        kinds: so.kinds,
-        numbers: k + 3,
-    }
+    listed.numbers = k + 3;
+    listed
 }
 
 // The lists after one item.
-fn added(so: Parsed, found: Item, kinds: &mut [u16], lines: &mut [u16]) -> Parsed
-    requires { ⌜ (so .kinds ≤ length (now kinds)) × (so .numbers ≤ length (now lines)) ⌝ }
+fn added(mut listed: Parsed, found: Item, kinds: &mut [u16], lines: &mut [u16]) -> Parsed
+    requires { ⌜ (listed .kinds ≤ length (now kinds)) × (listed .numbers ≤ length (now lines)) ⌝ }
     ensures { λ r. ⌜ (r .kinds ≤ length (now (kinds .exit))) × (r .numbers ≤ length (now (lines .exit))) ⌝ }
 {
     match found {
-        Item::Vertex(i, kind) => add_vertex(so, i, kind, kinds),
-        Item::Line(sort, first, second) => add_line(so, sort, first, second, lines),
-        Item::Wrong(number) => refused(so, number),
-        Item::Nothing => so,
+        Item::Vertex(i, kind) => add_vertex(listed, i, kind, kinds),
+        Item::Line(sort, first, second) => add_line(listed, sort, first, second, lines),
+        Item::Wrong(number) => {
+            listed.number = number;
+            listed
+        }
+        Item::Nothing => listed,
     }
 }
 
@@ -97,7 +83,7 @@ fn next_line(text: &[u8], at: usize) -> usize
 pub fn lists(text: &[u8], kinds: &mut [u16], lines: &mut [u16]) -> Parsed
     ensures { λ r. ⌜ (r .kinds ≤ length (now (kinds .exit))) × (r .numbers ≤ length (now (lines .exit))) ⌝ }
 {
-    let mut so = Parsed {
+    let mut listed = Parsed {
         number: 0,
         line: 1,
         kinds: 0,
@@ -109,11 +95,11 @@ pub fn lists(text: &[u8], kinds: &mut [u16], lines: &mut [u16]) -> Parsed
         let found = item_at(text, at);
         at = next_line(text, at);
         line += 1;
-        so = added(so, found, kinds, lines);
-        so.line = line;
-        if so.number != 0 {
-            return so;
+        listed = added(listed, found, kinds, lines);
+        listed.line = line;
+        if listed.number != 0 {
+            return listed;
         }
     }
-    so
+    listed
 }

@@ -9,6 +9,7 @@ use crate::draw::next;
 use check::same;
 use listing::text_of;
 use sheet::writer::write;
+use std::num::wrapping_add_u32;
 use text::sheet_of::sheet_of;
 
 // The place in the sequence; how many sheets came back the same, and their texts; a digest of every text, and of what came of every damaged one; how many of those were refused.
@@ -37,14 +38,6 @@ fn mix_bytes(d: u64, bytes: &[u8]) -> u64 {
         i += 1;
     }
     r
-}
-
-// One more, up to a million.
-fn more(n: u32) -> u32 {
-    if n < 1000000 {
-        return n + 1;
-    }
-    n
 }
 
 // What the writer makes of the first n kinds and the first m numbers of lines.
@@ -98,7 +91,7 @@ fn damage(tally: Tally, text: &mut [u8], p: usize, byte: u8) -> Tally {
     let made = sheet_of(text, &mut bytes);
     text[p] = old;
     if made.number != 0 {
-        refused = more(refused);
+        refused = wrapping_add_u32(refused, 1);
     }
     Tally {
         seed: tally.seed,
@@ -129,7 +122,7 @@ fn damages(start: Tally, text: &mut [u8]) -> Tally {
 // One more where the bytes are the same.
 fn counted(n: u32, a: &[u8], b: &[u8]) -> u32 {
     if same(a, b) {
-        return more(n);
+        return wrapping_add_u32(n, 1);
     }
     n
 }

@@ -8,9 +8,6 @@ use Rattle.text.proofs.lists.add_line.Tie as tie
 sub-if1 : tie.Need-sub-if1
 sub-if1 c = search needs
 
-refused-requires : tie.Need-refused-requires
-refused-requires c κs = search needs
-
 returns : tie.Need-returns
 returns c = search needs
 
@@ -38,8 +35,8 @@ mul-lines-3 c = search needs
 slice-write-lines-3 : tie.Need-slice-write-lines-3
 slice-write-lines-3 c = simp length-set (omega arith)
 
-add-t8 : tie.Need-add-t8
-add-t8 c = search needs
+add-listed : tie.Need-add-listed
+add-listed c = search needs
 
 same-length : tie.Need-same-length
 same-length c = search needs
@@ -52,7 +49,6 @@ add-line-spec =
     tie.close
     (tie.spec
     sub-if1
-    refused-requires
     returns
     mul-lines
     slice-write-lines
@@ -62,6 +58,6 @@ add-line-spec =
     add-lines-2
     mul-lines-3
     slice-write-lines-3
-    add-t8
+    add-listed
     same-length
     returns-2)

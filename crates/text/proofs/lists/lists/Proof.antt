@@ -7,10 +7,10 @@ use Rattle.text.proofs.lists.lists.Statement.{statement}
 use Rattle.text.proofs.lists.lists.Tie as tie
 
 abbrev Inv-loop : tie.InvT-loop
-Inv-loop text kinds₀ lines₀ so₀ line₀ at₀ kinds lines so line at = (length kinds ≡ length kinds₀) × (length lines ≡ length lines₀) × (so .kinds ≤ length kinds) × (so .numbers ≤ length lines) × (line ≤ at) × (at ≤ length text)
+Inv-loop text kinds₀ lines₀ listed₀ line₀ at₀ kinds lines listed line at = (length kinds ≡ length kinds₀) × (length lines ≡ length lines₀) × (listed .kinds ≤ length kinds) × (listed .numbers ≤ length lines) × (line ≤ at) × (at ≤ length text)
 
 abbrev μ-loop : tie.MeasureT-loop
-μ-loop text kinds₀ lines₀ so₀ line₀ at₀ kinds lines so line at = length text - at
+μ-loop text kinds₀ lines₀ listed₀ line₀ at₀ kinds lines listed line at = length text - at
 
 loop-holds : tie.Need-loop-holds Inv-loop μ-loop
 loop-holds c = search needs

@@ -17,26 +17,17 @@ loop-holds c = search needs
 shared-slice-read-byte : tie.Need-shared-slice-read-byte Inv-loop μ-loop
 shared-slice-read-byte c = search needs
 
-parts-requires : tie.Need-parts-requires Inv-loop μ-loop
-parts-requires c κs = search needs
+class-requires : tie.Need-class-requires Inv-loop μ-loop
+class-requires c κs = search needs
 
 returns : tie.Need-returns Inv-loop μ-loop
 returns c = search needs
 
-nothing-requires : tie.Need-nothing-requires Inv-loop μ-loop
-nothing-requires c κs = search needs
-
 returns-2 : tie.Need-returns-2 Inv-loop μ-loop
 returns-2 c = search needs
 
-nothing-requires-2 : tie.Need-nothing-requires-2 Inv-loop μ-loop
-nothing-requires-2 c κs = search needs
-
 returns-3 : tie.Need-returns-3 Inv-loop μ-loop
 returns-3 c = search needs
-
-nothing-requires-3 : tie.Need-nothing-requires-3 Inv-loop μ-loop
-nothing-requires-3 c κs = search needs
 
 returns-4 : tie.Need-returns-4 Inv-loop μ-loop
 returns-4 c = search needs
@@ -64,13 +55,10 @@ fold-spec =
     μ-loop
     loop-holds
     shared-slice-read-byte
-    parts-requires
+    class-requires
     returns
-    nothing-requires
     returns-2
-    nothing-requires-2
     returns-3
-    nothing-requires-3
     returns-4
     grown-requires
     add-i
