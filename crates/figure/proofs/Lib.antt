@@ -1,5 +1,4 @@
 -- The laws, each file after those that it uses.
-pub mod Lists
 pub mod Filled
 pub mod Breadth
 pub mod Loaded

@@ -4,12 +4,13 @@ use mathlib.Core.Path.{_≡_, refl, ap, ap₂, sym, subst, _∙_}
 use mathlib.Core.Logic.{_⊎_, inl, inr, ⊎-elim, _≢_}
 use mathlib.Core.List.{List, [], _∷_, _++_, map, List·Memᴰ, List·Memᴰ·head, List·Memᴰ·tail, List·Memᴰ·not-nil, List·Memᴰ·cases-cons, List·Memᴰ·append-cases, Memᴰ·cast, Memᴰ·append-left, Memᴰ·append-right}
 use mathlib.Core.Bool.{Bool, true, false, _&&_, _||_, not, false≢true, or-true, and-eq-true-iff}
-use native.Mathlib.Nat.{add-zero, add-suc, suc-add}
+use native.Mathlib.Nat.{add-zero, zero-add, add-suc, suc-add}
 use native.Mathlib.Decide.{ℕ-discrete}
 use native.Mathlib.Omega.{arith}
 use borrow.Author.Tests.{eqb-true, eq-eqb}
 use lib.Dec.{eqb}
-use lib.ListN.{length, getD, take, length-map}
+use lib.ListN.{length, getD, take, length-map, length-append}
+use lib.Seq.{ext-getD}
 use Rattle.laws.specs.Lists.{any, all, keep, each, has, distinct, upto, Ordered, nil, cons}
 
 -- a test's two ends, with the equation
@@ -54,6 +55,10 @@ module _ {A : Type 0} (p : A → Bool) where
     | inl e ↦ (y, List·Memᴰ·head refl, e)
     | inr e ↦ let x = any-out ys (rw e at h) in (x .0, List·Memᴰ·tail (x .1), x .2)
   ]
+
+  pub keep-append : (l m : List A) → keep p (l ++ m) ≡ keep p l ++ keep p m
+  keep-append [] m = refl
+  keep-append (x ∷ l) m = elim (split (p x)) [ inl e ↦ rw e (ap (λ z. x ∷ z) (keep-append l m)) | inr e ↦ rw e (keep-append l m) ]
 
   pub keep-ordered : {R : A → A → Type 0} {l : List A} → Ordered R l → Ordered R (keep p l)
   keep-ordered nil = nil
@@ -120,6 +125,10 @@ ordered-one {A} {R} own both (cons {x = x} {l = xs} p o) (cons {x = y} {l = ys} 
     heads : x ≡ y
     heads = ⊎-elim (λ e. e) (λ i. ⊎-elim (λ e. sym e) (λ j. absurd (both x y (p y j) (q x i))) (List·Memᴰ·cases-cons (g y (List·Memᴰ·head refl)))) (List·Memᴰ·cases-cons (f x (List·Memᴰ·head refl)))
 
+-- so two ascending lists are
+pub ascending-one : {xs ys : List ℕ} → Ordered _<_ xs → Ordered _<_ ys → ((z : ℕ) → List·Memᴰ z xs → List·Memᴰ z ys) → ((z : ℕ) → List·Memᴰ z ys → List·Memᴰ z xs) → xs ≡ ys
+ascending-one = ordered-one (λ x h. omega arith) (λ x y h k. omega arith)
+
 -- a list that goes into another, each member to one of its own, is no longer
 removed : {y : ℕ} {ys : List ℕ} → List·Memᴰ y ys → (zs : List ℕ) × (length ys ≡ suc (length zs)) × ((z : ℕ) → List·Memᴰ z ys → (z ≡ y → ⊥) → List·Memᴰ z zs)
 removed (List·Memᴰ·head {xs = ys} e) = (ys, refl, λ z m n. ⊎-elim (λ q. absurd (n (q ∙ sym e))) (λ k. k) (List·Memᴰ·cases-cons m))
@@ -157,6 +166,23 @@ pub getD-map-upto : {A : Type 0} (f : ℕ → A) (d : A) (n i j : ℕ) → j < n
 getD-map-upto f d zero i j h = absurd (omega arith)
 getD-map-upto f d (suc n) i zero h = rw add-zero
 getD-map-upto f d (suc n) i (suc j) h = getD-map-upto f d n (suc i) j (omega arith) ∙ rw (add-suc, suc-add)
+
+-- and of a map of the first n numbers
+pub getD-first : {A : Type 0} (f : ℕ → A) (d : A) (n j : ℕ) → j < n → getD (map f (upto n 0)) j d ≡ f j
+getD-first f d n j h = getD-map-upto f d n 0 j h ∙ ap f (zero-add j)
+
+-- a list is a map of the first n numbers, by its entries
+pub firsts : {A : Type 0} (t : List A) (g : ℕ → A) (d : A) (n : ℕ) → length t ≡ n → ((k : ℕ) → k < n → getD t k d ≡ g k) → t ≡ map g (upto n 0)
+firsts t g d n e h = ext-getD d t _ (e ∙ sym (length-map-upto g n 0)) (λ k l. h k (omega arith) ∙ sym (getD-first g d n k (omega arith)))
+
+-- maps of numbers one after the other
+pub map-upto-append : {A : Type 0} (f : ℕ → A) (a b i j c : ℕ) → j ≡ i + a → c ≡ a + b → map f (upto a i) ++ map f (upto b j) ≡ map f (upto c i)
+map-upto-append f zero b i j c p q = let s : b ≡ c = omega arith in let t : j ≡ i = omega arith in rw (s, t)
+map-upto-append f (suc a) b i j c p q = let e : c ≡ suc (a + b) = omega arith in rw e (ap (λ l. f i ∷ l) (map-upto-append f a b (suc i) j (a + b) (omega arith) refl))
+
+-- one number more
+pub map-next : {A : Type 0} (f : ℕ → A) (n : ℕ) → map f (upto (n + 1) 0) ≡ map f (upto n 0) ++ (f n ∷ [])
+map-next f n = sym (map-upto-append f n 1 0 n (n + 1) (omega arith) refl)
 
 -- two maps that agree from i on give the same of n numbers
 pub map-upto : {A : Type 0} (f g : ℕ → A) (n i : ℕ) → ((u : ℕ) → i ≤ u → u < i + n → f u ≡ g u) → map f (upto n i) ≡ map g (upto n i)
@@ -208,11 +234,6 @@ once-distinct nil = refl
 once-distinct (cons {x = v} {l = l} f o) = elim (split (has v l)) [ inl h ↦ absurd (f v (has-out v l h) refl) | inr h ↦ rw (h, once-distinct o) ]
 
 -- how many are kept of lists one after the other
-module _ {A : Type 0} (q : A → Bool) where
-  keep-append : (l m : List A) → length (keep q (l ++ m)) ≡ length (keep q l) + length (keep q m)
-  keep-append [] m = omega arith
-  keep-append (x ∷ l) m = elim (split (q x)) [ inl e ↦ rw e (omega (arith, keep-append l m)) | inr e ↦ rw e (keep-append l m) ]
-
-  pub keep-each : (f : ℕ → List A) (vs : List ℕ) → length (keep q (each f vs)) ≡ total (λ v. length (keep q (f v))) vs
-  keep-each f [] = refl
-  keep-each f (v ∷ vs) = omega (arith, keep-append (f v) (each f vs), keep-each f vs)
+pub keep-each : {A : Type 0} (q : A → Bool) (f : ℕ → List A) (vs : List ℕ) → length (keep q (each f vs)) ≡ total (λ v. length (keep q (f v))) vs
+keep-each q f [] = refl
+keep-each q f (v ∷ vs) = omega (arith, ap length (keep-append q (f v) (each f vs)), length-append (keep q (f v)) (keep q (each f vs)), keep-each q f vs)

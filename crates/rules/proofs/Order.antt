@@ -4,7 +4,6 @@ use mathlib.Core.Path.{_≡_, refl, ap, sym, _∙_}
 use mathlib.Core.List.{List, _∷_, _++_, map, List·Memᴰ, List·Memᴰ·head, List·Memᴰ·tail, List·Memᴰ·eq-of-singleton, Memᴰ·cast}
 use mathlib.Core.Bool.{true}
 use mathlib.Core.Option.{Option, some, none}
-use native.Mathlib.Nat.{zero-add}
 use native.Mathlib.Omega.{arith}
 use lib.ListN.{length, getD, drop}
 use lib.Seq.{drop-cons}
@@ -14,7 +13,7 @@ use Rattle.rules.specs.Candidates.{setOf}
 use Rattle.rules.specs.Tries.{Plan, Level, Try, level, after, opening, user, takeable, rowOf}
 use Rattle.rules.proofs.Lawful.{tryOf, Grown, more, Lawful, Earlier, here, later, InOrder}
 use Rattle.rules.proofs.Steps.{try-cases, Siblings, done, skip, turn, level-steps}
-use Rattle.laws.proofs.Lists.{single-ordered, append-ordered, weaken-ordered, getD-map-upto}
+use Rattle.laws.proofs.Lists.{single-ordered, append-ordered, weaken-ordered, getD-first}
 use Rattle.rules.proofs.Placements.{takeable-ordered, latest, older, kept}
 use Rattle.rules.proofs.Sound.{siblings-from, unopened, try-from, level-from}
 
@@ -58,7 +57,7 @@ module _ (S : Plan) (L : Lawful S) where
   level-keeps zero {M} {row} g n m w h =
       let e = List·Memᴰ·eq-of-singleton m in
       let same : row ≡ rowOf (S .figure) M = cc in
-      ap (λ l. entry l w) same ∙ getD-map-upto (image M) 0 (S .figure .graph .size) 0 w (kept S L g .inside w h) ∙ rw zero-add
+      ap (λ l. entry l w) same ∙ getD-first (image M) 0 (S .figure .graph .size) w (kept S L g .inside w h)
   level-keeps (suc k) {M} g n m w h =
       let x = level-from S k M m in
       let o = older M (S .next M) (x .0) w (L .fresh g (omega arith)) h in

@@ -1,18 +1,16 @@
 -- The rows listed are the places.
 use Prim.Native.Nat.{ℕ, _<_}
-use mathlib.Core.Path.{_≡_, ap, sym, _∙_}
+use mathlib.Core.Path.{_≡_, refl, ap, sym, _∙_}
 use mathlib.Core.Logic.{⊎-elim}
 use mathlib.Core.List.{List, [], map, List·Memᴰ, Memᴰ·cast}
 use mathlib.Core.Option.{some}
-use native.Mathlib.Nat.{zero-add}
 use lib.ListN.{length, getD}
-use lib.Seq.{ext-getD}
 use Rattle.laws.specs.Lists.{upto}
 use Rattle.rules.specs.Place.{Place, entry}
 use Rattle.rules.specs.Candidates.{setOf}
 use Rattle.rules.specs.Tries.{Plan, level}
 use Rattle.rules.proofs.Lawful.{Lawful, Faithful, Fits}
-use Rattle.laws.proofs.Lists.{length-map-upto, getD-map-upto}
+use Rattle.laws.proofs.Lists.{length-map-upto, getD-first, firsts}
 use Rattle.rules.proofs.Lines.{joined-sym}
 use Rattle.rules.proofs.Complete.{search-lists}
 use Rattle.rules.proofs.Sound.{search-sound}
@@ -30,7 +28,7 @@ module _ (S : Plan) (L : Lawful S) (A : Faithful S) where
       }
 
       same : row ≡ map (entry row) (upto (S .figure .graph .size) 0)
-      same = ext-getD 0 row _ (P .whole ∙ sym (length-map-upto _ (S .figure .graph .size) 0)) (λ u h. sym (getD-map-upto (entry row) 0 (S .figure .graph .size) 0 u (rw (P .whole) at h) ∙ rw zero-add))
+      same = firsts row (entry row) 0 (S .figure .graph .size) (P .whole) (λ u h. refl)
 
   -- every row listed is a place
   pub listed-place : (row : List ℕ) → List·Memᴰ (some row) (level S (S .figure .graph .size) [] .tries) → Place (S .figure) (S .patch) row
@@ -46,4 +44,4 @@ module _ (S : Plan) (L : Lawful S) (A : Faithful S) where
       }
         where
           at : (u : ℕ) → u < (S .figure .graph .size) → entry row u ≡ r u
-          at u h = ap (λ l. getD l u 0) e ∙ getD-map-upto r 0 (S .figure .graph .size) 0 u h ∙ rw zero-add
+          at u h = ap (λ l. getD l u 0) e ∙ getD-first r 0 (S .figure .graph .size) u h

@@ -5,18 +5,12 @@ use mathlib.Core.List.{List, [], _∷_, _++_, map, append-assoc, List·Memᴰ, L
 use native.Mathlib.Decide.{decLt}
 use native.Mathlib.Omega.{arith}
 use lib.ListN.{length, getD, length-append, List·getD-eq-default}
-use lib.Seq.{ext-getD}
 use Rattle.laws.specs.Lists.{upto}
 use Rattle.rules.specs.Sheet.{Line, Sheet, Bytes, bitAt, word, field, vertexCount, lineCount, bitLength, byteLength, kindsHeld, lineAt, linesHeld, held, bits, kindBits, lineBits, layout, packed, written}
 use Rattle.rules.specs.Checks.{Limits, patchLimits, Accepted}
 use Rattle.rules.specs.Calls.{Writable}
-use Rattle.laws.proofs.Lists.{map-upto, getD-in, getD-map-upto, length-map-upto}
+use Rattle.laws.proofs.Lists.{map-upto, map-upto-append, getD-in, getD-map-upto, getD-first, firsts, length-map-upto}
 use Rattle.rules.proofs.Fields.{bitAt-lt, word-same, bits-word, length-bits, word-at, word-bit, byte-word, Two, two-append, two-bits}
-
--- two runs of bits, one after the other
-runs : (f : ℕ → ℕ) (a b i j c : ℕ) → j ≡ i + a → c ≡ a + b → map f (upto a i) ++ map f (upto b j) ≡ map f (upto c i)
-runs f zero b i j c p q = let s : b ≡ c = omega arith in let t : j ≡ i = omega arith in rw (s, t)
-runs f (suc a) b i j c p q = let e : c ≡ suc (a + b) = omega arith in rw e (ap (λ l. f i ∷ l) (runs f a b (suc i) j (a + b) (omega arith) refl))
 
 module _ (bytes : List ℕ) where
   abbrev f : ℕ → ℕ
@@ -26,35 +20,31 @@ module _ (bytes : List ℕ) where
   kinds-run : (n i : ℕ) → kindBits (map (λ k. field bytes (22 + 6 * k) 6) (upto n i)) ≡ map f (upto (6 * n) (22 + 6 * i))
   unfolding kindBits
   kinds-run zero i = refl
-  kinds-run (suc n) i = rw (bits-word f (bitAt-lt bytes) (22 + 6 * i) 6, kinds-run n (suc i)) (runs f 6 (6 * n) (22 + 6 * i) (22 + 6 * suc i) (6 * suc n) (omega arith) (omega arith))
+  kinds-run (suc n) i = rw (bits-word f (bitAt-lt bytes) (22 + 6 * i) 6, kinds-run n (suc i)) (map-upto-append f 6 (6 * n) (22 + 6 * i) (22 + 6 * suc i) (6 * suc n) (omega arith) (omega arith))
 
   lines-run : (s m j : ℕ) → lineBits (map (λ k. lineAt bytes (s + 20 * k)) (upto m j)) ≡ map f (upto (20 * m) (s + 20 * j))
   unfolding lineBits lineAt
   lines-run s zero j = refl
-  lines-run s (suc m) j = rw (bits-word f (bitAt-lt bytes) (s + 20 * j) 2, bits-word f (bitAt-lt bytes) (s + 20 * j + 2) 9, bits-word f (bitAt-lt bytes) (s + 20 * j + 11) 9, lines-run s m (suc j), runs f 9 (20 * m) (s + 20 * j + 11) (s + 20 * suc j) (9 + 20 * m) (omega arith) refl, runs f 9 (9 + 20 * m) (s + 20 * j + 2) (s + 20 * j + 11) (18 + 20 * m) (omega arith) (omega arith)) (runs f 2 (18 + 20 * m) (s + 20 * j) (s + 20 * j + 2) (20 * suc m) refl (omega arith))
+  lines-run s (suc m) j = rw (bits-word f (bitAt-lt bytes) (s + 20 * j) 2, bits-word f (bitAt-lt bytes) (s + 20 * j + 2) 9, bits-word f (bitAt-lt bytes) (s + 20 * j + 11) 9, lines-run s m (suc j), map-upto-append f 9 (20 * m) (s + 20 * j + 11) (s + 20 * suc j) (9 + 20 * m) (omega arith) refl, map-upto-append f 9 (9 + 20 * m) (s + 20 * j + 2) (s + 20 * j + 11) (18 + 20 * m) (omega arith) (omega arith)) (map-upto-append f 2 (18 + 20 * m) (s + 20 * j) (s + 20 * j + 2) (20 * suc m) refl (omega arith))
 
   layout-run : layout (held bytes) ≡ map f (upto (bitLength (vertexCount bytes) (lineCount bytes)) 0)
   unfolding layout kindsHeld linesHeld
   layout-run =
       let n = vertexCount bytes in
       let m = lineCount bytes in
-      rw (length-map-upto (λ k. field bytes (22 + 6 * k) 6) n 0, length-map-upto (λ k. lineAt bytes (22 + 6 * n + 20 * k)) m 0, kinds-run n 0, lines-run (22 + 6 * n) m 0, bits-word f (bitAt-lt bytes) 0 10, bits-word f (bitAt-lt bytes) 10 12, runs f (6 * n) (20 * m) 22 (22 + 6 * n + 20 * 0) (6 * n + 20 * m) (omega arith) refl, runs f 12 (6 * n + 20 * m) 10 22 (12 + (6 * n + 20 * m)) (omega arith) refl) (runs f 10 (12 + (6 * n + 20 * m)) 0 10 (bitLength n m) (omega arith) (omega arith))
-
--- a list is its entries
-entries : (l : List ℕ) → map (λ k. getD l k 0) (upto (length l) 0) ≡ l
-entries l = ext-getD 0 _ l (length-map-upto _ (length l) 0) (λ i h. getD-map-upto _ 0 (length l) 0 i (rw length-map-upto at h) ∙ ap (λ k. getD l k 0) {x = 0 + i} {y = i} (omega arith))
+      rw (length-map-upto (λ k. field bytes (22 + 6 * k) 6) n 0, length-map-upto (λ k. lineAt bytes (22 + 6 * n + 20 * k)) m 0, kinds-run n 0, lines-run (22 + 6 * n) m 0, bits-word f (bitAt-lt bytes) 0 10, bits-word f (bitAt-lt bytes) 10 12, map-upto-append f (6 * n) (20 * m) 22 (22 + 6 * n + 20 * 0) (6 * n + 20 * m) (omega arith) refl, map-upto-append f 12 (6 * n + 20 * m) 10 22 (12 + (6 * n + 20 * m)) (omega arith) refl) (map-upto-append f 10 (12 + (6 * n + 20 * m)) 0 10 (bitLength n m) (omega arith) (omega arith))
 
 -- an accepted sheet read and written again is the same bytes
 pub read-written : (L : Limits) (bytes : List ℕ) → Bytes bytes → Accepted L bytes → written (held bytes) ≡ bytes
 unfolding packed kindsHeld linesHeld
-read-written L bytes small A = rw (length-map-upto (λ k. field bytes (22 + 6 * k) 6) (vertexCount bytes) 0, length-map-upto (λ k. lineAt bytes (22 + 6 * vertexCount bytes + 20 * k)) (lineCount bytes) 0, ← A .long, layout-run) (map-upto _ (λ k. getD bytes k 0) (length bytes) 0 (λ k a h. word-same _ (bitAt bytes) (8 * k) 8 (λ j b c. agree j (omega arith)) ∙ byte-word bytes k (small _ (getD-in 0 bytes k (omega arith)))) ∙ entries bytes)
+read-written L bytes small A = rw (length-map-upto (λ k. field bytes (22 + 6 * k) 6) (vertexCount bytes) 0, length-map-upto (λ k. lineAt bytes (22 + 6 * vertexCount bytes + 20 * k)) (lineCount bytes) 0, ← A .long, layout-run) (map-upto _ (λ k. getD bytes k 0) (length bytes) 0 (λ k a h. word-same _ (bitAt bytes) (8 * k) 8 (λ j b c. agree j (omega arith)) ∙ byte-word bytes k (small _ (getD-in 0 bytes k (omega arith)))) ∙ sym (firsts bytes _ 0 (length bytes) refl (λ k h. refl)))
   where
     B : ℕ
     B = bitLength (vertexCount bytes) (lineCount bytes)
 
     agree : (j : ℕ) → j < 8 * length bytes → getD (map (bitAt bytes) (upto B 0)) j 0 ≡ bitAt bytes j
     agree j h = elim (decLt j B) [
-      | yes l ↦ getD-map-upto (bitAt bytes) 0 B 0 j l ∙ ap (bitAt bytes) (omega arith)
+      | yes l ↦ getD-first (bitAt bytes) 0 B j l
       | no l ↦ List·getD-eq-default (map (bitAt bytes) (upto B 0)) 0 {n = j} (rw length-map-upto (omega arith)) ∙ sym (A .filling j (omega arith) h)
     ]
 

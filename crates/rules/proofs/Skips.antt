@@ -5,12 +5,11 @@ use mathlib.Core.Logic.{_≢_, inl, inr}
 use mathlib.Core.List.{List, List·Memᴰ}
 use mathlib.Core.Bool.{true, true≢false}
 use mathlib.Core.Option.{some}
-use native.Mathlib.Nat.{zero-add}
 use lib.ListN.{length}
 use Rattle.laws.specs.Masks.{inMask}
 use Rattle.rules.specs.Place.{Placed, entry, placed, image}
 use Rattle.rules.specs.Tries.{Plan, level, takeable, rowOf}
-use Rattle.laws.proofs.Lists.{split, getD-map-upto}
+use Rattle.laws.proofs.Lists.{split, getD-first}
 use Rattle.rules.proofs.Lawful.{tryOf, Grown, Lawful}
 use Rattle.rules.proofs.Placements.{kept}
 use Rattle.rules.proofs.Nogood.{agrees-more, try-refutes}
@@ -23,7 +22,7 @@ unfolding rowOf
 no-skip-after-place S L k {M} g n {row} m v t fails =
     let x = level-reaches S (suc k) g n m in
     let r : ℕ → ℕ = image (x .at) in
-    let agrees : (w : ℕ) → placed M w ≡ true → r w ≡ image M w = λ w h. sym (ap (λ l. entry l w) (x .same) ∙ getD-map-upto r 0 (S .figure .graph .size) 0 w (kept S L g .inside w h) ∙ ap r (zero-add w)) ∙ level-keeps S L (suc k) g n m w h in
+    let agrees : (w : ℕ) → placed M w ≡ true → r w ≡ image M w = λ w h. sym (ap (λ l. entry l w) (x .same) ∙ getD-first r 0 (S .figure .graph .size) w (kept S L g .inside w h)) ∙ level-keeps S L (suc k) g n m w h in
     elim (split (inMask (S .next M) (tryOf S k M v .failing))) [
       | inl has-u ↦ has-u
       | inr lacks ↦ absurd (try-refutes S L r (full-fits S L (x .grown) (x .full)) k g n v t fails (agrees-more r M (S .next M) v _ (λ w h i. agrees w h) (λ i. absurd (true≢false (sym i ∙ lacks)))))

@@ -11,12 +11,11 @@ use lib.ListN.{length, getD, take, drop}
 use lib.Seq.{take-suc, drop-cons}
 use lib.Pow.{shr-shr, high}
 use Rattle.laws.specs.Lists.{all, upto}
-use Rattle.laws.proofs.Lists.{length-map-upto, getD-map-upto, getD-in}
+use Rattle.laws.proofs.Lists.{length-map-upto, getD-in, getD-first, map-next}
 use Rattle.rules.specs.Sheet.{Line, bits, kindBits, lineBits}
 use Rattle.rules.specs.Calls.{linesOf}
 use Rattle.rules.proofs.Fields.{bits-below}
 use Rattle.sheet.specs.Writing.{lineIn}
-use Rattle.sheet.proofs.Stores.{map-next}
 
 -- the bits of one kind more, and of one line more
 kindBits-append : (a b : List ℕ) → kindBits (a ++ b) ≡ kindBits a ++ kindBits b
@@ -92,5 +91,4 @@ pub line-among : (ls : List ℕ) (j : ℕ) → j < length ls / 3 → List·Mem�
 line-among ls j h =
     let g = lineIn ls in
     let m = length ls / 3 in
-    let e : getD (map g (upto m 0)) j (g 0) ≡ g j = getD-map-upto g (g 0) m 0 j h ∙ ap g {x = 0 + j} {y = j} (omega arith) in
-    rw (lines-by ls, sym e) (getD-in (g 0) (map g (upto m 0)) j (rw (length-map-upto g m 0) h))
+    rw (lines-by ls, sym (getD-first g (g 0) m j h)) (getD-in (g 0) (map g (upto m 0)) j (rw (length-map-upto g m 0) h))

@@ -1,5 +1,5 @@
 -- Stores into a list from its start on: what was stored, and the rest as it was.
-use Prim.Native.Nat.{ℕ, zero, suc, _+_, _*_, _≤_, _<_}
+use Prim.Native.Nat.{ℕ, suc, _+_, _*_, _≤_, _<_}
 use mathlib.Core.Path.{_≡_, refl, ap, _∙_}
 use mathlib.Core.List.{List, [], _∷_, _++_, map, append-assoc}
 use native.Mathlib.Numerals.{add-one}
@@ -7,7 +7,7 @@ use native.Mathlib.Omega.{arith}
 use lib.ListN.{length, getD, set, drop, length-append}
 use lib.Seq.{drop-cons, set-at}
 use Rattle.laws.specs.Lists.{upto}
-use Rattle.laws.proofs.Lists.{length-map-upto}
+use Rattle.laws.proofs.Lists.{length-map-upto, map-next}
 use Rattle.rules.specs.Sheet.{Line}
 use Rattle.rules.specs.Calls.{over, triples}
 use Rattle.rules.proofs.ReadWrite.{length-triples}
@@ -15,14 +15,6 @@ use Rattle.rules.proofs.ReadWrite.{length-triples}
 -- one more store
 pub store-next : (xs l : List ℕ) (i j v : ℕ) → length xs ≡ i → i < length l → j ≡ i + 1 → set (xs ++ drop i l) i v ≡ (xs ++ (v ∷ [])) ++ drop j l
 store-next xs l i j v e h f = rw (f, drop-cons l i 0 h, set-at xs (getD l i 0) (drop (suc i) l) v i e, add-one, append-assoc)
-
--- one more element of a list by numbers
-pub map-more : {A : Type 0} (f : ℕ → A) (n i j : ℕ) → j ≡ i + n → map f (upto (suc n) i) ≡ map f (upto n i) ++ (f j ∷ [])
-map-more f zero i j e = ap (λ k. f k ∷ []) (omega arith)
-map-more f (suc n) i j e = ap (λ l. f i ∷ l) (map-more f n (suc i) j (omega arith))
-
-pub map-next : {A : Type 0} (f : ℕ → A) (n : ℕ) → map f (upto (n + 1) 0) ≡ map f (upto n 0) ++ (f n ∷ [])
-map-next f n = rw add-one (map-more f n 0 n (omega arith))
 
 -- three more numbers of a line
 pub triples-append : (a b : List Line) → triples (a ++ b) ≡ triples a ++ triples b

@@ -6,7 +6,7 @@ use mathlib.Core.List.{List, [], _∷_, map}
 use mathlib.Core.Bool.{true, false, and-false, false≢true}
 use mathlib.Core.Option.{some, none}
 use native.Mathlib.Nat.{zero-mul, zero-add, mul-le-mul-right}
-use native.Mathlib.Decide.{decLt}
+use native.Mathlib.Decide.{decLt, ℕ-discrete}
 use native.Mathlib.Omega.{arith}
 use borrow.Author.Tests.{lt-ltb, le-ltb, le-leb, lt-leb, eq-eqb, ne-eqb, ltb-true, eqb-true, eqb-false}
 use lib.Dec.{eqb, ltb}
@@ -36,6 +36,10 @@ module _ (n : ℕ) (l : Line) where
   pub unfit-order : l .second ≤ l .first → lineFits n l ≡ false
   unfit-order h = rw (le-ltb (l .first) (l .second) h, and-false, and-false, and-false)
 
+-- the ends of a line side by side in one number
+abbrev pub ends-beside : Line → ℕ
+ends-beside l = l .first * 65_536 + l .second
+
 -- the order of two lines, test by test
 module _ (k l : Line) where
   pub after-first : k .first < l .first → comesAfter k l ≡ true
@@ -46,6 +50,19 @@ module _ (k l : Line) where
 
   pub after-second : l .first ≤ k .first → k .first ≡ l .first → comesAfter k l ≡ ltb (k .second) (l .second)
   after-second h e = rw (le-ltb (k .first) (l .first) h, eq-eqb (k .first) (l .first) e)
+
+  -- by one number a line
+  pub after-number : k .second < 65_536 → l .second < 65_536 → comesAfter k l ≡ ltb (ends-beside k) (ends-beside l)
+  after-number a b = elim (decLt (k .first) (l .first)) [
+    | yes f ↦ after-first f ∙ sym (lt-ltb (ends-beside k) (ends-beside l) (omega arith))
+    | no f ↦ elim (ℕ-discrete (k .first) (l .first)) [
+      | yes e ↦ after-second (omega arith) e ∙ elim (decLt (k .second) (l .second)) [
+        | yes s ↦ lt-ltb (k .second) (l .second) s ∙ sym (lt-ltb (ends-beside k) (ends-beside l) (omega arith))
+        | no s ↦ le-ltb (k .second) (l .second) (omega arith) ∙ sym (le-ltb (ends-beside k) (ends-beside l) (omega arith))
+      ]
+      | no e ↦ not-after (omega arith) e ∙ sym (le-ltb (ends-beside k) (ends-beside l) (omega arith))
+    ]
+  ]
 
 -- the two checks of one line
 module _ (ten n : ℕ) (k l : Line) where

@@ -36,7 +36,6 @@ module _ (bytes : List ℕ) (small : (i : ℕ) → getD bytes i 0 < 256) where
   eight k i e = rw e (byte-word bytes k (small k))
 
   pub four-word : (k : ℕ) → word (bitAt bytes) (8 * k) 32 ≡ fourBytes bytes k
-  unfolding fourBytes
   four-word k =
       let f = bitAt bytes in
       let a = word-split f (8 * k) 8 24 32 refl in

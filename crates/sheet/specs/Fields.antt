@@ -6,7 +6,7 @@ use Rattle.rules.specs.Sheet.{Line}
 use Rattle.sheet.specs.declared.fields.SheetLine.{SheetLine}
 
 -- the four bytes from byte k on as one number, most significant first, with 0 for each that is past the end
-unfoldable pub fourBytes : List ℕ → ℕ → ℕ
+abbrev pub fourBytes : List ℕ → ℕ → ℕ
 fourBytes bytes k = getD bytes k 0 * 16_777_216 + getD bytes (k + 1) 0 * 65_536 + getD bytes (k + 2) 0 * 256 + getD bytes (k + 3) 0
 
 -- the line that a struct says

@@ -39,13 +39,9 @@ pub(crate) fn line_fits(line: SheetLine, n: u16) -> bool
 pub(crate) fn comes_after(before: SheetLine, line: SheetLine) -> bool
     ensures { λ r. ⌜ r ≡ comesAfter (lineOf before) (lineOf line) ⌝ }
 {
-    if before.first < line.first {
-        return true;
-    }
-    if before.first != line.first {
-        return false;
-    }
-    before.second < line.second
+    let earlier = (before.first as u32) * 65536 + (before.second as u32);
+    let later = (line.first as u32) * 65536 + (line.second as u32);
+    earlier < later
 }
 
 // The number that the checks of one line give: its fit before its order.

@@ -19,7 +19,7 @@ fn read_sheet(path: &[u8], bytes: &mut [u8; 5508]) -> usize
 }
 
 // A number, and what stands after it.
-fn print(n: u64, after: u8) {
+pub fn print(n: u64, after: u8) {
     io::print_decimal(STDOUT_FILENO, n);
     io::write_all(STDOUT_FILENO, &[after]);
 }
@@ -43,7 +43,7 @@ fn print_row(row: &[u16]) {
 }
 
 // The first rows of a list, of n entries each.
-fn print_rows(list: &[u16], rows: usize, n: usize) {
+pub fn print_rows(list: &[u16], rows: usize, n: usize) {
     let mut left = rows;
     let mut at = 0;
     while 0 < left {
