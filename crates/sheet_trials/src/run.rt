@@ -14,8 +14,8 @@ use crate::draw::draw_lines;
 use crate::draw::next;
 use sheet::check::check_figure;
 use sheet::check::check_patch;
-use sheet::reader::read;
-use sheet::writer::write;
+use sheet_reader::read;
+use sheet_writer::write;
 
 // The writer on two lists, and all that came back.
 fn run_write(kinds: &[u16], lines: &[u16], out: &mut [u8], tally: &mut [u32], d: u64) -> u64 {
