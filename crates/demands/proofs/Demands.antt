@@ -14,7 +14,8 @@ use Rattle.rules.specs.Partials.{partials}
 use Rattle.rules.specs.Answer.{allRows}
 use Rattle.rules.specs.Calls.{over, reader, ReaderHanded, writer, WriterHanded, searchChecks, searchRefusals, Handed, Searched, refused, roomOf, search, found}
 use Rattle.rules.proofs.Demands as rules
-use Rattle.sheet.specs.Answers.{asRead, asWritten}
+use Rattle.sheet_reader.specs.Answers.{asRead}
+use Rattle.sheet_writer.specs.Answers.{asWritten}
 use Rattle.find.specs.Answers.{asSearched}
 use Rattle.demands.specs.Calls.{Asked, Given, Allows, figureIn, patchIn, rowsGiven, ReadAsked, ReadGiven, ReadAllows, WriteAsked, WriteGiven, WriteAllows}
 

@@ -5,9 +5,10 @@ use mathlib.Core.List.{List}
 use Rattle.rules.specs.Place.{Figure, Patch, PatchVertex}
 use Rattle.rules.specs.Calls.{reader, writer, figureOf, patchOf, found}
 use Rattle.rules.specs.RowCheck.{RowsChecked}
-use Rattle.sheet.specs.Answers.{asRead, asWritten}
-use Rattle.sheet.specs.declared.reader.ReadAnswer.{ReadAnswer}
-use Rattle.sheet.specs.declared.writer.WriteAnswer.{WriteAnswer}
+use Rattle.sheet_reader.specs.Answers.{asRead}
+use Rattle.sheet_reader.specs.declared.ReadAnswer.{ReadAnswer}
+use Rattle.sheet_writer.specs.Answers.{asWritten}
+use Rattle.sheet_writer.specs.declared.WriteAnswer.{WriteAnswer}
 use Rattle.find.specs.Answers.{Finds, asSearched}
 use Rattle.find.specs.declared.Found.{Found}
 use Rattle.row_check.specs.declared.Checked.{Checked}

@@ -6,8 +6,8 @@ ghost use Rattle.rules.specs.RowCheck.{RowsChecked};
 ghost use Rattle.exports.specs.Answers.{asSearched, asRead, asWritten};
 use find::find;
 use row_check::check_rows;
-use sheet::reader::read;
-use sheet::writer::write;
+use sheet_reader::read;
+use sheet_writer::write;
 
 // What the search returns: its number, the rows written and the tries spent.
 #[repr(C)]

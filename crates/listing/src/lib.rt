@@ -2,7 +2,7 @@
 ghost use Prim.Native.Nat.{_≤_};
 ghost use lib.ListN.{length};
 ghost use Rattle.io.specs.Counts.{Counts};
-use sheet::reader::read;
+use sheet_reader::read;
 
 // 0 and the text's bytes, or the reader's number.
 pub struct SheetText {

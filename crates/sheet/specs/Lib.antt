@@ -1,6 +1,3 @@
 -- What the sheet's functions cite beside the rules.
 pub mod Fields
 pub mod Check
-pub mod Answers
-pub mod Pen
-pub mod Writing

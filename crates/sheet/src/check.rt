@@ -45,7 +45,7 @@ pub(crate) fn comes_after(before: SheetLine, line: SheetLine) -> bool
 }
 
 // The number that the checks of one line give: its fit before its order.
-pub(crate) fn line_number(before: SheetLine, line: SheetLine, n: u16, ten: u16) -> u16
+pub fn line_number(before: SheetLine, line: SheetLine, n: u16, ten: u16) -> u16
     requires { ⌜ ten ≤ 20 ⌝ }
     ensures { λ r. ⌜ r ≡ lineVerdict ten n (lineOf before) (lineOf line) ⌝ }
 {
@@ -59,7 +59,7 @@ pub(crate) fn line_number(before: SheetLine, line: SheetLine, n: u16, ten: u16) 
 }
 
 // The line before the first: every line that fits comes after it.
-pub(crate) fn no_line() -> SheetLine
+pub fn no_line() -> SheetLine
     ensures { λ r. ⌜ lineOf r ≡ record { type = 0; first = 0; second = 0 } ⌝ }
 {
     SheetLine {

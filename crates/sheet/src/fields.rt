@@ -89,7 +89,7 @@ pub fn counts(bytes: &[u8]) -> SheetCounts
 }
 
 // The length of a sheet of n vertices and m lines in bits.
-pub(crate) fn bit_length(n: usize, m: usize) -> usize
+pub fn bit_length(n: usize, m: usize) -> usize
     requires { ⌜ (n < 65536) × (m < 65536) ⌝ }
     ensures { λ r. ⌜ r ≡ rules.bitLength n m ⌝ }
 {

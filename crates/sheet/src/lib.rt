@@ -1,6 +1,3 @@
-// Sheets: their checks, the reader and the writer, as document 01 has them.
+// Sheets as document 01 has them: their fields and their checks.
 pub mod check;
 pub mod fields;
-mod pen;
-pub mod reader;
-pub mod writer;

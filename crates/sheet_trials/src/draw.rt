@@ -2,12 +2,7 @@
 ghost use Prim.Native.Nat.{_+_, _<_};
 ghost use lib.ListN.{length};
 
-// A place in the sequence, beside what it is handed on with: a digest, or a count.
-pub(crate) struct Drawn {
-    pub seed: u32,
-    pub digest: u64,
-}
-
+// A place in the sequence, beside a count.
 pub(crate) struct Counted {
     pub seed: u32,
     pub count: usize,
@@ -32,7 +27,7 @@ pub(crate) fn below(seed: u32, limit: u16) -> u16
     (seed / 32768 % (limit as u32)) as u16
 }
 
-pub(crate) fn draw_kinds(kinds: &mut [u16], seed: u32) -> u32 {
+fn draw_kinds(kinds: &mut [u16], seed: u32) -> u32 {
     let mut s = seed;
     let mut i = 0;
     while i < kinds.len() {
@@ -68,7 +63,7 @@ fn set_line(lines: &mut [u16], k: usize, sort: u16, e: Ends)
 }
 
 // Lines among n vertices, ascending, as many as there are or as the list holds.
-pub(crate) fn draw_lines(lines: &mut [u16], n: u16, seed: u32) -> Counted {
+fn draw_lines(lines: &mut [u16], n: u16, seed: u32) -> Counted {
     let mut s = seed;
     let mut e = Ends {
         first: 0,
@@ -92,6 +87,12 @@ pub(crate) fn draw_lines(lines: &mut [u16], n: u16, seed: u32) -> Counted {
         seed: s,
         count: 3 * k,
     }
+}
+
+// Kinds, and lines among the first n of their vertices; the count is of the lines' numbers.
+pub(crate) fn draw_lists(kinds: &mut [u16], lines: &mut [u16], n: u16, seed: u32) -> Counted {
+    let s = draw_kinds(kinds, seed);
+    draw_lines(lines, n, s)
 }
 
 pub(crate) fn draw_bytes(bytes: &mut [u8], seed: u32) -> u32 {

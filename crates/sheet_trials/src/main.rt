@@ -5,7 +5,6 @@ mod draw;
 mod run;
 
 use crate::digest::print_part;
-use crate::draw::Drawn;
 use crate::draw::next;
 use crate::run::damage;
 use crate::run::one_drawn;
@@ -16,52 +15,51 @@ use crate::run::one_written;
 
 // The sheets of benches a and b, with every bit flipped and every shorter sheet.
 fn benches() {
-    let mut tally = [0u32; 40];
+    let mut log = [0u64; 41];
+    log[40] = 1;
     let mut a = [0x00u8, 0x80, 0x04, 0x10, 0x90, 0x00, 0x04];
     let mut b = [0x00u8, 0x40, 0x00, 0x50];
-    let d = damage(&mut a, &mut tally, 1);
-    let e = damage(&mut b, &mut tally, d);
-    print_part(&tally, e);
+    damage(&mut a, &mut log);
+    damage(&mut b, &mut log);
+    print_part(&log);
 }
 
-// One trial of a part: a drawn sheet with all its damage, random bytes under their counts, random bytes, or lists to write.
-fn one(part: u32, seed: u32, tally: &mut [u32], digest: u64) -> Drawn {
+// One trial of a part, and the place in the sequence after it: a drawn sheet with all its damage, random bytes under their counts, random bytes, or lists to write.
+fn one(part: u32, seed: u32, log: &mut [u64]) -> u32 {
     if part == 1 {
-        return one_drawn(seed, tally, digest);
+        return one_drawn(seed, log);
     }
     if part == 2 {
-        return one_random(seed, tally, digest);
+        return one_random(seed, log);
     }
     if part == 3 {
-        return one_noise(seed, tally, digest);
+        return one_noise(seed, log);
     }
-    one_written(seed, tally, digest)
+    one_written(seed, log)
 }
 
-fn turns(part: u32, count: u32, tally: &mut [u32]) -> u64 {
-    let mut d = Drawn {
-        seed: 11,
-        digest: 2,
-    };
+fn turns(part: u32, count: u32, log: &mut [u64]) {
+    let mut seed = 11;
     let mut i = 0;
     while i < count {
-        d = one(part, d.seed, tally, d.digest);
+        seed = one(part, seed, log);
         i += 1;
     }
-    d.digest
 }
 
 fn show(part: u32, count: u32) {
-    let mut tally = [0u32; 40];
-    let d = turns(part, count, &mut tally);
-    print_part(&tally, d);
+    let mut log = [0u64; 41];
+    log[40] = 2;
+    turns(part, count, &mut log);
+    print_part(&log);
 }
 
 // The longest sheet.
 fn large() {
-    let mut tally = [0u32; 40];
-    let d = one_large(next(15), &mut tally, 6);
-    print_part(&tally, d);
+    let mut log = [0u64; 41];
+    log[40] = 6;
+    one_large(next(15), &mut log);
+    print_part(&log);
 }
 
 fn main() {

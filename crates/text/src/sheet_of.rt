@@ -3,7 +3,7 @@ ghost use Prim.Native.Nat.{_≤_};
 ghost use lib.ListN.{length};
 ghost use Rattle.io.specs.Counts.{Counts};
 use crate::lists::lists;
-use sheet::writer::write;
+use sheet_writer::write;
 
 // 0 and the sheet's bytes, or a number and the line of the text.
 pub struct TextSheet {

@@ -8,7 +8,7 @@ use crate::draw::draw_lines;
 use crate::draw::next;
 use check::same;
 use listing::text_of;
-use sheet::writer::write;
+use sheet_writer::write;
 use std::num::wrapping_add_u32;
 use text::sheet_of::sheet_of;
 

@@ -2,7 +2,7 @@
 ghost use Prim.Native.Nat.{_≤_};
 use find::Found;
 use find::find;
-use sheet::writer::write;
+use sheet_writer::write;
 
 // How many numbers of working memory and of the list are lent, and the allowance.
 pub struct Limits {

@@ -1,4 +1,4 @@
--- `sheet_trials::turns` meets its contract. The invariant: the counts keep their length. Assumes nothing.
+-- `sheet_trials::turns` meets its contract. The invariant: the log keeps its length. Assumes nothing.
 use Prim.Native.Nat.{_≤_, _-_}
 use mathlib.Core.Path.{_≡_}
 use borrow.Author.Needs.{needs}
@@ -7,10 +7,10 @@ use Rattle.sheet_trials.proofs.turns.Statement.{statement}
 use Rattle.sheet_trials.proofs.turns.Tie as tie
 
 abbrev Inv-loop : tie.InvT-loop
-Inv-loop part count tally₀ d₀ i₀ tally d i = (length tally ≡ length tally₀) × (i ≤ count)
+Inv-loop part count log₀ seed₀ i₀ log seed i = (length log ≡ length log₀) × (i ≤ count)
 
 abbrev μ-loop : tie.MeasureT-loop
-μ-loop part count tally₀ d₀ i₀ tally d i = count - i
+μ-loop part count log₀ seed₀ i₀ log seed i = count - i
 
 loop-holds : tie.Need-loop-holds Inv-loop μ-loop
 loop-holds c = search needs

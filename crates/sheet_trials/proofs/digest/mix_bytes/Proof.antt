@@ -1,27 +1,25 @@
--- `sheet_trials::digest::mix_bytes` meets its contract. The invariant: the index is within the list. Assumes nothing.
+-- `sheet_trials::digest::mix_bytes` meets its contract. The invariant: the log keeps its length, and the index is within the list. Assumes nothing.
 use Prim.Native.Nat.{_≤_, _-_}
+use mathlib.Core.Path.{_≡_}
 use borrow.Author.Needs.{needs}
 use lib.ListN.{length}
 use Rattle.sheet_trials.proofs.digest.mix_bytes.Statement.{statement}
 use Rattle.sheet_trials.proofs.digest.mix_bytes.Tie as tie
 
 abbrev Inv-loop : tie.InvT-loop
-Inv-loop d xs r₀ i₀ r i = i ≤ length xs
+Inv-loop log₀ xs i₀ log i = (length log ≡ length log₀) × (i ≤ length xs)
 
 abbrev μ-loop : tie.MeasureT-loop
-μ-loop d xs r₀ i₀ r i = length xs - i
+μ-loop log₀ xs i₀ log i = length xs - i
 
 loop-holds : tie.Need-loop-holds Inv-loop μ-loop
 loop-holds c = search needs
 
-shared-slice-read-byte : tie.Need-shared-slice-read-byte Inv-loop μ-loop
-shared-slice-read-byte c = search needs
+shared-slice-read-mix-byte : tie.Need-shared-slice-read-mix-byte Inv-loop μ-loop
+shared-slice-read-mix-byte c = search needs
 
-byte-requires : tie.Need-byte-requires Inv-loop μ-loop
-byte-requires c κs = search needs
-
-mix-requires : tie.Need-mix-requires Inv-loop μ-loop
-mix-requires c κs = search needs
+mix-byte-requires : tie.Need-mix-byte-requires Inv-loop μ-loop
+mix-byte-requires c κs = search needs
 
 add-i : tie.Need-add-i Inv-loop μ-loop
 add-i c = search needs
@@ -31,6 +29,9 @@ loop-less c = search needs
 
 loop-again : tie.Need-loop-again Inv-loop μ-loop
 loop-again c = search needs
+
+same-length : tie.Need-same-length Inv-loop μ-loop
+same-length c = search needs
 
 returns : tie.Need-returns Inv-loop μ-loop
 returns c = search needs
@@ -42,10 +43,10 @@ mix-bytes-spec =
     Inv-loop
     μ-loop
     loop-holds
-    shared-slice-read-byte
-    byte-requires
-    mix-requires
+    shared-slice-read-mix-byte
+    mix-byte-requires
     add-i
     loop-less
     loop-again
+    same-length
     returns)

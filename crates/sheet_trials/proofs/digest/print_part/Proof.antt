@@ -5,10 +5,16 @@ use Rattle.sheet_trials.proofs.digest.print_part.Statement.{statement}
 use Rattle.sheet_trials.proofs.digest.print_part.Tie as tie
 
 abbrev Inv-loop : tie.InvT-loop
-Inv-loop tally d i₀ i = i ≤ 40
+Inv-loop log i₀ i = i ≤ 40
 
 abbrev μ-loop : tie.MeasureT-loop
-μ-loop tally d i₀ i = 40 - i
+μ-loop log i₀ i = 40 - i
+
+returns : tie.Need-returns Inv-loop μ-loop
+returns c = search needs
+
+shared-slice-read-print-decimal : tie.Need-shared-slice-read-print-decimal Inv-loop μ-loop
+shared-slice-read-print-decimal c = search needs
 
 print-decimal-requires : tie.Need-print-decimal-requires Inv-loop μ-loop
 print-decimal-requires c κs = search needs
@@ -31,8 +37,8 @@ loop-again c = search needs
 end-line-requires : tie.Need-end-line-requires Inv-loop μ-loop
 end-line-requires c κs = search needs
 
-returns : tie.Need-returns Inv-loop μ-loop
-returns c = search needs
+returns-2 : tie.Need-returns-2 Inv-loop μ-loop
+returns-2 c = search needs
 
 pub print-part-spec : {M : Type 1} → statement M
 print-part-spec =
@@ -40,6 +46,8 @@ print-part-spec =
     (tie.spec
     Inv-loop
     μ-loop
+    returns
+    shared-slice-read-print-decimal
     print-decimal-requires
     loop-holds
     print-count-requires
@@ -47,4 +55,4 @@ print-part-spec =
     loop-less
     loop-again
     end-line-requires
-    returns)
+    returns-2)

@@ -1,4 +1,4 @@
--- `sheet_trials::run::cuts` meets its contract. The invariant: the counts keep their length, and the length is at most a step past the end. Assumes nothing.
+-- `sheet_trials::run::cuts` meets its contract. The invariant: the log keeps its length, and the length is at most a step past the end. Assumes nothing.
 use Prim.Native.Nat.{_≤_, _-_, _+_}
 use mathlib.Core.Path.{_≡_}
 use borrow.Author.Needs.{needs}
@@ -7,10 +7,10 @@ use Rattle.sheet_trials.proofs.run.cuts.Statement.{statement}
 use Rattle.sheet_trials.proofs.run.cuts.Tie as tie
 
 abbrev Inv-loop : tie.InvT-loop
-Inv-loop sheet skip tally₀ d r₀ k₀ tally r k = (length tally ≡ length tally₀) × (length sheet ≤ 6000) × (k ≤ length sheet + 1000)
+Inv-loop sheet skip log₀ k₀ log k = (length log ≡ length log₀) × (length sheet ≤ 6000) × (k ≤ length sheet + 1000)
 
 abbrev μ-loop : tie.MeasureT-loop
-μ-loop sheet skip tally₀ d r₀ k₀ tally r k = (length sheet + 1000) - k
+μ-loop sheet skip log₀ k₀ log k = (length sheet + 1000) - k
 
 returns : tie.Need-returns Inv-loop μ-loop
 returns c = search needs

@@ -1,4 +1,4 @@
--- `sheet_trials::run::flips` meets its contract. The invariant: bytes and counts keep their lengths, and the bit is at most a step past the end. Assumes nothing.
+-- `sheet_trials::run::flips` meets its contract. The invariant: bytes and log keep their lengths, and the bit is at most a step past the end. Assumes nothing.
 use Prim.Native.Nat.{_≤_, _-_, _+_}
 use mathlib.Core.Path.{_≡_}
 use borrow.Author.Needs.{needs}
@@ -7,10 +7,10 @@ use Rattle.sheet_trials.proofs.run.flips.Statement.{statement}
 use Rattle.sheet_trials.proofs.run.flips.Tie as tie
 
 abbrev Inv-loop : tie.InvT-loop
-Inv-loop sheet₀ skip tally₀ d r₀ end i₀ sheet tally r i = (length sheet ≡ length sheet₀) × (length tally ≡ length tally₀) × (end ≤ 48000) × (i ≤ end + 1000)
+Inv-loop sheet₀ skip log₀ end i₀ sheet log i = (length sheet ≡ length sheet₀) × (length log ≡ length log₀) × (end ≤ 48000) × (i ≤ end + 1000)
 
 abbrev μ-loop : tie.MeasureT-loop
-μ-loop sheet₀ skip tally₀ d r₀ end i₀ sheet tally r i = (end + 1000) - i
+μ-loop sheet₀ skip log₀ end i₀ sheet log i = (end + 1000) - i
 
 returns : tie.Need-returns Inv-loop μ-loop
 returns c = search needs

@@ -1,4 +1,4 @@
--- `sheet_trials::run::lends` meets its contract. The invariant: the counts keep their length, and the length lent is at most 40. Assumes nothing.
+-- `sheet_trials::run::lends` meets its contract. The invariant: the log keeps its length, and the length lent is at most 40. Assumes nothing.
 use Prim.Native.Nat.{_≤_, _-_}
 use mathlib.Core.Path.{_≡_}
 use borrow.Author.Needs.{needs}
@@ -7,10 +7,10 @@ use Rattle.sheet_trials.proofs.run.lends.Statement.{statement}
 use Rattle.sheet_trials.proofs.run.lends.Tie as tie
 
 abbrev Inv-loop : tie.InvT-loop
-Inv-loop sheet tally₀ d r₀ k₀ tally r k = (length tally ≡ length tally₀) × (k ≤ 40)
+Inv-loop sheet log₀ k₀ log k = (length log ≡ length log₀) × (k ≤ 40)
 
 abbrev μ-loop : tie.MeasureT-loop
-μ-loop sheet tally₀ d r₀ k₀ tally r k = 40 - k
+μ-loop sheet log₀ k₀ log k = 40 - k
 
 loop-holds : tie.Need-loop-holds Inv-loop μ-loop
 loop-holds c = search needs

@@ -1,0 +1,2 @@
+-- What the reader's function cites beside the rules.
+pub mod Answers

@@ -1,0 +1,159 @@
+-- What the writer returns, by the first of its checks to fail, and what it has put down once the last byte is filled.
+use Prim.Native.Nat.{ℕ, zero, suc, _+_, _*_, _-_, _/_, _%_, _^_, _≤_, _<_}
+use mathlib.Core.Path.{_≡_, refl, ap, ap₂, sym, _∙_}
+use mathlib.Core.Logic.{⊎-elim}
+use mathlib.Core.Bool.{true, false, and-false}
+use mathlib.Core.List.{List, [], _∷_, _++_}
+use mathlib.Core.Option.{none}
+use native.Mathlib.Nat.{zero-div}
+use native.Mathlib.Omega.{arith}
+use borrow.Author.Tests.{le-leb, lt-leb, eq-eqb, ne-eqb}
+use lib.Dec.{eqb, leb}
+use lib.ListN.{length, getD, drop}
+use Rattle.laws.specs.Lists.{all}
+use Rattle.laws.proofs.Lists.{has-out, map-upto, length-map-upto, getD-in}
+use Rattle.rules.specs.Sheet.{Sheet, word, bits, kindBits, lineBits, layout, packed, bitLength, byteLength, written}
+use Rattle.rules.specs.Checks.{Check, verdict, patchLimits, counted, lineChecks}
+use Rattle.rules.specs.Calls.{over, linesOf, sheetOf, writerChecks, writerRefusals, WriterHanded, writer}
+use Rattle.rules.proofs.Accepted.{from-11, verdict-cons, verdict-first, verdict-rest, numbered-positive, counted-iff, lines-numbered}
+use Rattle.rules.proofs.Fields.{word-same, length-bits}
+use Rattle.rules.proofs.RoundTrip.{length-layout}
+use Rattle.rules.proofs.ReadWrite.{length-linesOf, writer-taken, writer-either}
+use Rattle.sheet_writer.specs.declared.pen.Pen.{Pen}
+use Rattle.sheet_writer.specs.declared.WriteAnswer.{WriteAnswer}
+use Rattle.sheet_writer.specs.Answers.{asWritten}
+use Rattle.sheet_writer.specs.Pen.{Penned, Able, Added}
+use Rattle.sheet_writer.specs.Writing.{lineIn, KindsFit, LinesFit, listChecks}
+use Rattle.sheet_reader.proofs.Stores.{over-at}
+use Rattle.sheet_writer.proofs.Pens.{added-then}
+use Rattle.sheet_writer.proofs.Lines.{line-among}
+
+-- the checks on the two lists, one after the other
+module _ (ks ls : List ℕ) where
+  pub lists-threes : (length ls % 3 ≡ 0 → ⊥) → verdict (listChecks ks ls) ≡ 34
+  unfolding verdict
+  lists-threes h = rw (ne-eqb (length ls % 3) 0 h)
+
+  module _ (a : length ls % 3 ≡ 0) where
+    lists-uncounted : counted patchLimits (length ks) (length ls / 3) ≡ false → verdict (listChecks ks ls) ≡ 22
+    unfolding verdict
+    lists-uncounted e = rw (eq-eqb (length ls % 3) 0 a, e)
+
+    pub lists-none : length ks ≡ 0 → verdict (listChecks ks ls) ≡ 22
+    lists-none e = lists-uncounted (rw e)
+
+    pub lists-vertices : 512 < length ks → verdict (listChecks ks ls) ≡ 22
+    lists-vertices h = lists-uncounted (rw (lt-leb (length ks) 512 h, and-false))
+
+    pub lists-lines : 2_048 < length ls / 3 → verdict (listChecks ks ls) ≡ 22
+    lists-lines h = lists-uncounted (rw (lt-leb (length ls / 3) 2_048 h, and-false, and-false))
+
+    module _ (b : (length ks ≡ 0 → ⊥) × (length ks ≤ 512) × (length ls / 3 ≤ 2_048)) where
+      lists-counted : counted patchLimits (length ks) (length ls / 3) ≡ true
+      lists-counted = rw (le-leb 1 (length ks) (omega arith), le-leb (length ks) 512 (b .1), le-leb (length ls / 3) 2_048 (b .2))
+
+      pub lists-kinds : all (λ k. leb k 63) ks ≡ false → verdict (listChecks ks ls) ≡ 35
+      unfolding verdict
+      lists-kinds e = rw (eq-eqb (length ls % 3) 0 a, lists-counted, e)
+
+      pub lists-drawn : all (λ k. leb k 63) ks ≡ true → verdict (listChecks ks ls) ≡ verdict (lineChecks 20 (length ks) none (linesOf ls))
+      unfolding verdict
+      lists-drawn e = rw (eq-eqb (length ls % 3) 0 a, lists-counted, e)
+
+  -- lists that pass are within the limits
+  pub lists-small : verdict (listChecks ks ls) ≡ 0 → (length ks ≤ 512) × (length ls / 3 ≤ 2_048)
+  lists-small z =
+      let a = verdict-cons (eqb (length ls % 3) 0, 34) _ (omega arith) .0 z in
+      let b = verdict-cons (counted patchLimits (length ks) (length ls / 3), 22) _ (omega arith) .0 (a .1) in
+      let t = counted-iff patchLimits (length ks) (length ls / 3) .0 (b .0) in
+      (t .1, t .2)
+
+-- the writer's answer, by the first of its checks to fail
+module _ (ks ls bytes : List ℕ) where
+  abbrev room : Check
+  room = (leb (byteLength (length ks) (length ls / 3)) (length bytes), 33)
+
+  writer-refused : (k : ℕ) → verdict (writerChecks ks ls bytes) ≡ k → (k ≡ 0 → ⊥) → writer ks ls bytes ≡ record { number = k; count = 0; bytes = bytes }
+  unfolding writer
+  writer-refused zero e f = absurd (f refl)
+  writer-refused (suc k) e f = rw (writer, e)
+
+  module _ (r : WriteAnswer) (k : ℕ) (h : (r .number ≡ k) × (r .count ≡ 0)) where
+    refused : verdict (writerChecks ks ls bytes) ≡ k → (k ≡ 0 → ⊥) → asWritten r bytes ≡ writer ks ls bytes
+    refused e f = (λ i. record { number = h .0 i; count = h .1 i; bytes = bytes }) ∙ sym (writer-refused k e f)
+
+    pub by-lists : k ≡ verdict (listChecks ks ls) → (k ≡ 0 → ⊥) → asWritten r bytes ≡ writer ks ls bytes
+    by-lists e f = refused (verdict-first (listChecks ks ls) (room ∷ []) (λ z. f (e ∙ z)) ∙ sym e) f
+
+  module _ (good : verdict (listChecks ks ls) ≡ 0) where
+    roomed : verdict (writerChecks ks ls bytes) ≡ verdict (room ∷ [])
+    roomed = verdict-rest (listChecks ks ls) (room ∷ []) (omega arith, (omega arith, (omega arith, numbered-positive {ns = writerRefusals} refl (lineChecks 20 (length ks) none (linesOf ls)) (lines-numbered 20 (length ks) (has-out 24 _ refl) (has-out 25 _ refl) none (linesOf ls))))) good
+
+    pub by-room : (r : WriteAnswer) → (r .number ≡ 33) × (r .count ≡ 0) → length bytes < byteLength (length ks) (length ls / 3) → asWritten r bytes ≡ writer ks ls bytes
+    unfolding verdict
+    by-room r h l = refused r 33 h (roomed ∙ rw (lt-leb (byteLength (length ks) (length ls / 3)) (length bytes) l)) (λ z. omega arith)
+
+    module _ (l : byteLength (length ks) (length ls / 3) ≤ length bytes) where
+      handed : WriterHanded ks ls bytes
+      unfolding verdict
+      handed =
+          let z : verdict (room ∷ []) ≡ 0 = rw (le-leb (byteLength (length ks) (length ls / 3)) (length bytes) l) in
+          ⊎-elim (λ t. t .0) (λ t. absurd (omega (arith, from-11 {ns = writerRefusals} refl (t .0), roomed, z))) (writer-either ks ls bytes)
+
+      pub kinds-fit : KindsFit ks
+      kinds-fit i h = handed .sheet .kinds (getD ks i 0) (getD-in 0 ks i h)
+
+      pub lines-fit : LinesFit ls
+      lines-fit j h = let t = handed .sheet .drawn .fit (lineIn ls j) (line-among ls j h) in omega (arith, t, handed .sheet .vertices)
+
+      pub by-bytes : (r : WriteAnswer) (bytes′ : List ℕ) → r .number ≡ 0 → r .count ≡ byteLength (length ks) (length ls / 3) → bytes′ ≡ over (written (sheetOf ks ls)) bytes → asWritten r bytes′ ≡ writer ks ls bytes
+      by-bytes r bytes′ z e f = (λ i. record { number = z i; count = e i; bytes = f i }) ∙ sym (writer-taken ks ls bytes handed)
+
+-- a pen before the first bit
+abbrev pub start : Pen
+start = record { at = 0; held = 0; count = 0 }
+
+pub started : (old : List ℕ) → Penned old [] start old
+unfolding word packed
+started old = record { two = λ j. omega arith; long = refl; held = refl; wrote = refl; same = refl }
+
+-- room for w bits more, after what was put down from the start
+pub able-after : {new : List ℕ} {old : List ℕ} {pen : Pen} {bytes : List ℕ} → Added new start old pen bytes → (w : ℕ) → length new + w ≤ 8 * length old → Able w pen bytes
+able-after A w h = record { low = A .low; room = omega (arith, A .along, A .same) }
+
+-- zero bits past the end change no byte
+zero-bits : (w j : ℕ) → getD (bits w 0) j 0 ≡ 0
+unfolding bits
+zero-bits zero j = refl
+zero-bits (suc w) zero = rw (zero-div (2 ^ w))
+zero-bits (suc w) (suc j) = zero-bits w j
+
+filled-bit : (l : List ℕ) (w j : ℕ) → getD (l ++ bits w 0) j 0 ≡ getD l j 0
+filled-bit [] w j = zero-bits w j
+filled-bit (x ∷ l) w zero = refl
+filled-bit (x ∷ l) w (suc j) = filled-bit l w j
+
+packed-filled : (count : ℕ) (l : List ℕ) (w : ℕ) → packed count (l ++ bits w 0) ≡ packed count l
+unfolding packed
+packed-filled count l w = map-upto _ _ count 0 (λ i a b. word-same _ _ (8 * i) 8 (λ j c d. filled-bit l w j))
+
+-- a whole sheet put down
+module _ (ks ls old : List ℕ) where
+  abbrev s : Sheet
+  s = sheetOf ks ls
+
+  pub laid-out : {p q r t : Pen} {x y z u : List ℕ} → Added (bits 10 (length ks)) start old p x → Added (bits 12 (length ls / 3)) p x q y → Added (kindBits ks) q y r z → Added (lineBits (linesOf ls)) r z t u → Added (layout s) start old t u
+  unfolding layout
+  laid-out A B C D = rw (length-linesOf ls) (added-then A (added-then B (added-then C D)))
+
+  pub length-laid : length (layout s) ≡ bitLength (length ks) (length ls / 3)
+  length-laid = length-layout s ∙ ap (bitLength (length ks)) (length-linesOf ls)
+
+  pub finished : (t v : Pen) {u bytes : List ℕ} → Added (layout s) start old t u → t .count < 8 → Added (bits ((8 - t .count) % 8) 0) t u v bytes → v .count < 8 → bytes ≡ over (written s) old
+  unfolding packed
+  finished t v A h B k =
+      let P = B .adds old (layout s) (A .adds old [] (started old)) in
+      let w = (8 - t .count) % 8 in
+      let long : 8 * v .at + v .count ≡ bitLength (length ks) (length ls / 3) + w = B .along ∙ ap₂ _+_ (A .along ∙ omega (arith, length-laid)) (length-bits w 0) in
+      let e : v .at ≡ byteLength (length ks) (length (linesOf ls)) = omega (arith, long, A .along, length-laid, length-linesOf ls) in
+      P .wrote ∙ ap (λ l. l ++ drop (v .at) old) (packed-filled (v .at) (layout s) w) ∙ ap (λ k. packed k (layout s) ++ drop k old) e ∙ over-at (written s) old (byteLength (length ks) (length (linesOf ls))) (length-map-upto _ (byteLength (length ks) (length (linesOf ls))) 0)
