@@ -136,6 +136,22 @@ pub fn rack(random: &mut Random, modules: usize, cables: usize, normals: usize) 
     of(kinds, &pairs, |p| types[&p])
 }
 
+/// Mixers of kind 0, all joined to each other, with the given number of lines each to jacks of other kinds,
+/// and further lines between jacks.
+pub fn mixers(random: &mut Random, count: usize, lines: usize, further: usize, pool: &[u16]) -> Graph {
+    let jacks = 512 - count;
+    let mut pairs = BTreeSet::new();
+    more_pairs(random, jacks, further, &mut pairs);
+    for mixer in jacks..512 {
+        pairs.extend((jacks..mixer).map(|other| (other, mixer)));
+        pairs.extend(random.shuffled(jacks).iter().take(lines).map(|&jack| (jack, mixer)));
+    }
+    let mut all = kinds(random, jacks, pool);
+    all.resize(512, 0);
+    let patch = of(all, &pairs, |_| random.below(3) as u16);
+    mixed(random, &patch)
+}
+
 /// A graph whose vertices are joined where they are close on a grid: many near misses.
 pub fn grid(random: &mut Random, width: usize, height: usize, pool: &[u16]) -> Graph {
     let kinds = kinds(random, width * height, pool);

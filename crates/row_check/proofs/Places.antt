@@ -10,12 +10,8 @@ use Rattle.laws.specs.Lists.{has}
 use Rattle.laws.proofs.Lists.{getD-in, getD-out}
 use Rattle.rules.specs.Graph.{joined}
 use Rattle.rules.specs.Place.{Figure, Patch, Place, entry, kindFits}
-use Rattle.patch.specs.Tables.{runAt, Holds}
-use Rattle.row_check.specs.Against.{Readable, Within, KindsFit, Apart, LinesKept, Against}
-
--- tables that hold a patch can be read
-pub readable : {P : Patch} {t : List ℕ} → Holds P t → Readable t
-readable H = record { offsets = H .offsets; ascend = λ v h. rw (H .runs v h) (H .ascend v) }
+use Rattle.patch.specs.Tables.{runAt}
+use Rattle.row_check.specs.Against.{Within, KindsFit, Apart, LinesKept, Against}
 
 module _ {F : Figure} {P : Patch} {t : List ℕ} {size : ℕ} {kinds first second : List ℕ} {m n : ℕ} (A : Against F P t size kinds first second m n) where
   -- what the leaf tests ask

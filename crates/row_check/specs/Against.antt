@@ -4,15 +4,10 @@ use mathlib.Core.Path.{_≡_}
 use mathlib.Core.Bool.{true}
 use mathlib.Core.List.{List}
 use lib.ListN.{length, getD}
-use Rattle.laws.specs.Lists.{has, Ordered}
+use Rattle.laws.specs.Lists.{has}
 use Rattle.rules.specs.Graph.{Drawn}
 use Rattle.rules.specs.Place.{Figure, Patch, figureKind, entry}
-use Rattle.patch.specs.Tables.{Offsets, runAt, kindAt, Holds}
-
--- tables whose runs can be read and ascend
-pub record Readable (t : List ℕ) : Type 0 where
-  pub offsets : Offsets t
-  pub ascend : (v : ℕ) → v < 512 → Ordered _<_ (runAt t v)
+use Rattle.patch.specs.Tables.{runAt, kindAt, Holds}
 
 -- every entry of a row is a number of the tables
 abbrev pub Within : List ℕ → Type 0

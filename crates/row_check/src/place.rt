@@ -4,8 +4,9 @@ ghost use lib.ListN.{length, getD};
 ghost use Rattle.rules.specs.Checks.{Accepted, figureLimits};
 ghost use Rattle.rules.specs.Place.{Figure, Patch, Place, entry};
 ghost use Rattle.rules.specs.Calls.{figureOf};
+ghost use Rattle.patch.specs.Tables.{Linked};
 ghost use Rattle.row_check.specs.Says.{Says};
-ghost use Rattle.row_check.specs.Against.{Readable, KindsFit, Apart, LinesKept, HoldsEnds, Within, Against};
+ghost use Rattle.row_check.specs.Against.{KindsFit, Apart, LinesKept, HoldsEnds, Within, Against};
 use patch::PatchVertex;
 use patch::joined;
 use patch::kind_of;
@@ -45,7 +46,7 @@ pub(crate) fn ends_of(sheet: &[u8]) -> Ends
 
 // Whether every entry is a patch vertex of its figure vertex's kind.
 pub(crate) fn kinds_fit(tables: &[u16], size: u16, kinds: &[u16; 32], row: &[u16]) -> bool
-    requires { ⌜ Readable (now tables) × (size ≤ 512) × (length (now row) ≤ 32) ⌝ }
+    requires { ⌜ Linked (now tables) × (size ≤ 512) × (length (now row) ≤ 32) ⌝ }
     ensures { λ r. ⌜ Says r (KindsFit (now (tables .entry)) size (now (kinds .entry)) (now (row .entry))) ⌝ }
 {
     let mut u = 0;
@@ -88,7 +89,7 @@ pub(crate) fn lines_kept(
     m: usize,
     row: &[u16],
 ) -> bool
-    requires { ⌜ Readable (now tables) × (m ≤ 64) × Within (now row) × ((j : ℕ) → j < m → (getD (now first) j 0 < length (now row)) × (getD (now second) j 0 < length (now row))) ⌝ }
+    requires { ⌜ Linked (now tables) × (m ≤ 64) × Within (now row) × ((j : ℕ) → j < m → (getD (now first) j 0 < length (now row)) × (getD (now second) j 0 < length (now row))) ⌝ }
     ensures { λ r. ⌜ Says r (LinesKept (now (tables .entry)) (now (first .entry)) (now (second .entry)) m (now (row .entry))) ⌝ }
 {
     let mut j = 0;

@@ -111,6 +111,24 @@ fn hard(to: &mut Vec<Case>, random: &mut Random) {
     });
 }
 
+/// Mixers with hundreds of lines, jacks with two or three, and figures of jacks that are plugged into two or
+/// three mixers at once: the line test is asked of a mixer and a jack.
+fn mixers(to: &mut Vec<Case>, random: &mut Random) {
+    let pool: Vec<u16> = (1..13).collect();
+    collect(to, "mixer", 12, (100, 200_000), || {
+        let (count, lines) = (random.between(2, 4), random.between(300, 450));
+        let patch = graphs::mixers(random, count, lines, 256, &pool);
+        let mut jack = || *random.pick(&pool);
+        let (a, b) = (jack(), jack());
+        let figure = match random.below(3) {
+            0 => graph(&[0, 0, a], &[(0, 1), (0, 2), (1, 2)]),
+            1 => graph(&[0, 0, a, b], &[(0, 1), (0, 2), (0, 3), (1, 2), (1, 3)]),
+            _ => graph(&[0, 0, 0, a, b], &[(0, 1), (0, 2), (0, 3), (1, 2), (1, 3), (1, 4), (2, 3), (2, 4)]),
+        };
+        (figure, patch)
+    });
+}
+
 fn cases() -> Vec<Case> {
     let mut all = Vec::new();
     let mut random = Random::new(SEED);
@@ -118,6 +136,7 @@ fn cases() -> Vec<Case> {
     racks(&mut all, &mut random);
     randoms(&mut all, &mut random);
     hard(&mut all, &mut random);
+    mixers(&mut all, &mut random);
     all
 }
 

@@ -51,8 +51,8 @@ shared-slice-read-t15-2 c = c .before .before .before .before .before .before .b
 
 joined-requires : tie.Need-joined-requires Inv-loop μ-loop
 joined-requires c κs = let s = c .before .before .before .before .before .before .before .before in
-    let w = s .pre .2 _ (s .pre .3 (c .before .before .before .before .before .loop .j) (c .before .before .before .before .loop-test .taken) .0) in
-    (w, s .pre .0 .offsets, s .pre .0 .ascend _ w)
+    let ends = s .pre .3 (c .before .before .before .before .before .loop .j) (c .before .before .before .before .loop-test .taken) in
+    (s .pre .2 _ (ends .0), s .pre .2 _ (ends .1), s .pre .0)
 
 returns : tie.Need-returns Inv-loop μ-loop
 returns c = λ K. false≢true (sym (not-true _ (c .if1 .taken)) ∙ c .before .joined .ensures ∙ K (c .before .before .before .before .before .before .before .loop .j) (c .before .before .before .before .before .before .loop-test .taken))
