@@ -1,6 +1,7 @@
 -- What the proofs of several functions use, each file after those that it uses.
 pub mod Runs
 pub mod Laid
+pub mod Cuts
 pub mod Grown
 pub mod Rooms
 pub mod Passes

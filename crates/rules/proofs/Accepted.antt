@@ -13,9 +13,10 @@ use Rattle.laws.specs.Lists.{all, Ordered, nil, cons}
 use Rattle.rules.specs.Graph.{Drawn, Connected}
 use Rattle.rules.specs.Place.{Checked}
 use Rattle.rules.specs.Sheet.{Line, vertexCount, lineCount, bitLength, byteLength, bitAt, held, kindsHeld}
+use Rattle.rules.specs.Live.{live}
 use Rattle.rules.specs.Checks.{Check, verdict, FirstToFail, fails, passes, Limits, figureLimits, patchLimits, counted, cleared, lineFits, comesAfter, follows, Drawable, lineChecks, sheetChecks, Accepted}
 use Rattle.rules.specs.Calls.{endsOf, graphOf, figureOf, patchOf, connected, figureChecks, searchChecks, searchRefusals, Handed}
-use Rattle.laws.proofs.Lists.{split, has-out, all-in, all-out, upto-in, upto-out, length-map-upto}
+use Rattle.laws.proofs.Lists.{split, has-out, keep-out, keep-ordered, all-in, all-out, upto-in, upto-out, length-map-upto}
 use Rattle.rules.proofs.Breadth.{connected-iff}
 
 -- the verdict on a list of checks is 0 exactly where each check passes, if no check has number 0
@@ -202,21 +203,21 @@ module _ {L : Limits} {bytes : List ℕ} (A : Accepted L bytes) where
   unfolding kindsHeld
   held-size = length-map-upto _ (vertexCount bytes) 0
 
-  -- the graph of an accepted sheet is drawn
-  accepted-drawn : Drawn (graphOf (held bytes))
-  accepted-drawn = record {
-    lower = λ p m. let t = Memᴰ·of-map endsOf (held bytes .lines) m in rw (sym (t .2)) (A .drawn .fit (t .0) (t .1) .1);
-    inside = λ p m. let t = Memᴰ·of-map endsOf (held bytes .lines) m in rw (held-size, sym (t .2)) (A .drawn .fit (t .0) (t .1) .2);
-    once = pairs-once (A .drawn .ascend);
+  -- the graph of lines of an accepted sheet, in their order, is drawn
+  accepted-drawn : (ls : List Line) → ((l : Line) → List·Memᴰ l ls → List·Memᴰ l (held bytes .lines)) → Ordered (λ k l. comesAfter k l ≡ true) ls → Drawn (graphOf (record { kinds = held bytes .kinds; lines = ls }))
+  accepted-drawn ls among ascend = record {
+    lower = λ p m. let t = Memᴰ·of-map endsOf ls m in rw (sym (t .2)) (A .drawn .fit (t .0) (among (t .0) (t .1)) .1);
+    inside = λ p m. let t = Memᴰ·of-map endsOf ls m in rw (held-size, sym (t .2)) (A .drawn .fit (t .0) (among (t .0) (t .1)) .2);
+    once = pairs-once ascend;
   }
 
 pub figure-drawn : (figure : List ℕ) → Accepted figureLimits figure → (0 < (figureOf figure .graph .size)) × Drawn (figureOf figure .graph)
 unfolding figureOf
-figure-drawn figure A = (rw (held-size A) (A .vertex), accepted-drawn A)
+figure-drawn figure A = (rw (held-size A) (A .vertex), accepted-drawn A (held figure .lines) (λ l m. m) (A .drawn .ascend))
 
 pub patch-drawn : (patch : List ℕ) → Accepted patchLimits patch → ((patchOf patch .graph .size) ≤ 512) × Drawn (patchOf patch .graph)
 unfolding patchOf
-patch-drawn patch A = (rw (held-size A) (A .vertices), accepted-drawn A)
+patch-drawn patch A = (rw (held-size A) (A .vertices), accepted-drawn A (live (held patch) .lines) (λ l m. keep-out _ (held patch .lines) m .0) (keep-ordered _ (A .drawn .ascend)))
 
 -- five numbers of a list
 pub tens : {ns : List ℕ} (ten : ℕ) → List·Memᴰ (ten + 1) ns → List·Memᴰ (ten + 2) ns → List·Memᴰ (ten + 3) ns → List·Memᴰ (ten + 4) ns → List·Memᴰ (ten + 5) ns → (i : ℕ) → i < 5 → List·Memᴰ (ten + suc i) ns

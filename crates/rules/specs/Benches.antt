@@ -1,10 +1,11 @@
--- Document 01, "Benches": one table of calls on bytes, one theorem. a to i are starred there, j and k are run there too, l to o are our own.
+-- Document 01, "Benches": one table of calls on bytes, one theorem. a to i are starred there, j and k are run there too, l to q are our own, p and q for document 02, Wish 2.
 use Prim.Native.Nat.{ℕ}
 use mathlib.Core.Path.{_≡_, refl}
 use mathlib.Core.List.{List, [], _∷_, _++_, map, flatten}
 use lib.ListN.{replicate}
 use Rattle.laws.specs.Masks.{inMask}
-use Rattle.rules.specs.Sheet.{cable, written, packed, layout, bits, word, bitAt, kindsHeld, lineAt, linesHeld, kindBits, lineBits}
+use Rattle.rules.specs.Sheet.{panel, cable, normalled, written, packed, layout, bits, word, bitAt, kindsHeld, lineAt, linesHeld, kindBits, lineBits}
+use Rattle.rules.specs.Live.{plugged, dead}
 use Rattle.rules.specs.Checks.{verdict}
 use Rattle.rules.specs.Place.{kindFits, image, placed}
 use Rattle.rules.specs.Candidates.{atFirst, firstSets, root, rootFrom, order, orderFrom, newcomers, before, parents, union, ancestors, ancestorsFrom, supported, pass, refined}
@@ -28,6 +29,10 @@ run (find f p k n a) = let s = search f p (replicate k 4) (replicate n 4) a in s
 -- the sheet of kinds and of cables between pairs of vertices
 abbrev pub S : List ℕ → List (ℕ × ℕ) → List ℕ
 S ks ls = written (record { kinds = ks; lines = map (λ l. record { type = cable; first = l .0; second = l .1 }) ls })
+
+-- the sheet of kinds and of lines, each a type and a pair of vertices
+abbrev pub T : List ℕ → List (ℕ × (ℕ × ℕ)) → List ℕ
+T ks ls = written (record { kinds = ks; lines = map (λ l. record { type = l .0; first = l .1 .0; second = l .1 .1 }) ls })
 
 -- working memory that is just long enough
 abbrev pub W : ℕ
@@ -92,6 +97,14 @@ lP = S (2 ∷ 2 ∷ 2 ∷ 1 ∷ 0 ∷ 0 ∷ 1 ∷ 1 ∷ 0 ∷ []) ((0, 2) ∷ (0
 -- the patch of bench m, where the passes would change the root
 abbrev pub mP : List ℕ
 mP = S (1 ∷ 0 ∷ 0 ∷ 1 ∷ []) ((0, 1) ∷ (0, 2) ∷ (0, 3) ∷ [])
+
+-- the figure of most of bench p
+abbrev pub pF : List ℕ
+pF = S (16 ∷ 32 ∷ []) ((0, 1) ∷ [])
+
+-- the figure of bench p with two lines at one jack
+abbrev pub pG : List ℕ
+pG = S (32 ∷ 16 ∷ 17 ∷ []) ((0, 1) ∷ (0, 2) ∷ [])
 
 -- bench a: the sheet is written, and read
 abbrev pub a : List (Call × List ℕ)
@@ -163,11 +176,33 @@ n =
 abbrev pub o : List (Call × List ℕ)
 o = (write (5 ∷ 5 ∷ 5 ∷ []) [], 0 ∷ 5 ∷ 0x00 ∷ 0xC0 ∷ 0x00 ∷ 0x51 ∷ 0x45 ∷ 4 ∷ 4 ∷ 4 ∷ []) ∷ []
 
+-- our bench p: a normalled line is live; a cable added at its input jack loses the place, whichever end that is; one at the other end, of kind 31, does not; a panel line is not cut; a panel line is no plug; two normalled lines at one jack, and a cable that cuts both; kind 59 is cut, kind 60 is not
+abbrev pub p : List (Call × List ℕ)
+p =
+    (find pF (T (16 ∷ 32 ∷ 17 ∷ []) ((normalled, (0, 1)) ∷ [])) W 2 10, 0 ∷ 1 ∷ 2 ∷ 0 ∷ 1 ∷ [])
+    ∷ (find pF (T (16 ∷ 32 ∷ 17 ∷ []) ((normalled, (0, 1)) ∷ (cable, (1, 2)) ∷ [])) W 2 10, 0 ∷ 0 ∷ 0 ∷ 4 ∷ 4 ∷ [])
+    ∷ (find (S (32 ∷ 16 ∷ []) ((0, 1) ∷ [])) (T (32 ∷ 16 ∷ 17 ∷ []) ((normalled, (0, 1)) ∷ (cable, (0, 2)) ∷ [])) W 2 10, 0 ∷ 0 ∷ 0 ∷ 4 ∷ 4 ∷ [])
+    ∷ (find (S (31 ∷ 32 ∷ []) ((0, 1) ∷ [])) (T (31 ∷ 32 ∷ 33 ∷ []) ((normalled, (0, 1)) ∷ (cable, (0, 2)) ∷ [])) W 2 10, 0 ∷ 1 ∷ 2 ∷ 0 ∷ 1 ∷ [])
+    ∷ (find (S (1 ∷ 32 ∷ []) ((0, 1) ∷ [])) (T (1 ∷ 32 ∷ 16 ∷ []) ((panel, (0, 1)) ∷ (cable, (1, 2)) ∷ [])) W 2 10, 0 ∷ 1 ∷ 2 ∷ 0 ∷ 1 ∷ [])
+    ∷ (find pF (T (16 ∷ 32 ∷ 1 ∷ []) ((normalled, (0, 1)) ∷ (panel, (1, 2)) ∷ [])) W 2 10, 0 ∷ 1 ∷ 2 ∷ 0 ∷ 1 ∷ [])
+    ∷ (find pG (T (16 ∷ 32 ∷ 17 ∷ 18 ∷ []) ((normalled, (0, 1)) ∷ (normalled, (1, 2)) ∷ [])) W 3 10, 0 ∷ 1 ∷ 3 ∷ 1 ∷ 0 ∷ 2 ∷ [])
+    ∷ (find pG (T (16 ∷ 32 ∷ 17 ∷ 18 ∷ []) ((normalled, (0, 1)) ∷ (normalled, (1, 2)) ∷ (cable, (1, 3)) ∷ [])) W 3 10, 0 ∷ 0 ∷ 0 ∷ 4 ∷ 4 ∷ 4 ∷ [])
+    ∷ (find (S (16 ∷ 59 ∷ []) ((0, 1) ∷ [])) (T (16 ∷ 59 ∷ 17 ∷ []) ((normalled, (0, 1)) ∷ (cable, (1, 2)) ∷ [])) W 2 10, 0 ∷ 0 ∷ 0 ∷ 4 ∷ 4 ∷ [])
+    ∷ (find (S (16 ∷ 60 ∷ []) ((0, 1) ∷ [])) (T (16 ∷ 60 ∷ 17 ∷ []) ((normalled, (0, 1)) ∷ (cable, (1, 2)) ∷ [])) W 2 10, 0 ∷ 1 ∷ 2 ∷ 0 ∷ 1 ∷ [])
+    ∷ []
+
+-- our bench q: a dead line is not in the degree either, so there is no try; in a figure the line counts, whatever meets its ends
+abbrev pub q : List (Call × List ℕ)
+q =
+    (find (S (16 ∷ 32 ∷ 32 ∷ []) ((0, 1) ∷ (0, 2) ∷ [])) (T (16 ∷ 32 ∷ 32 ∷ 17 ∷ []) ((normalled, (0, 1)) ∷ (normalled, (0, 2)) ∷ (cable, (2, 3)) ∷ [])) W 3 10, 0 ∷ 0 ∷ 0 ∷ 4 ∷ 4 ∷ 4 ∷ [])
+    ∷ (find (T (16 ∷ 32 ∷ 17 ∷ []) ((normalled, (0, 1)) ∷ (cable, (1, 2)) ∷ [])) (S (16 ∷ 32 ∷ 17 ∷ []) ((0, 1) ∷ (1, 2) ∷ [])) W 3 10, 0 ∷ 1 ∷ 3 ∷ 0 ∷ 1 ∷ 2 ∷ [])
+    ∷ []
+
 -- the table
 abbrev pub benches : List (Call × List ℕ)
-benches = a ++ (b ++ (c ++ (d ++ (e ++ (f ++ (g ++ (h ++ (i ++ (j ++ (k ++ (l ++ (m ++ (n ++ o)))))))))))))
+benches = a ++ (b ++ (c ++ (d ++ (e ++ (f ++ (g ++ (h ++ (i ++ (j ++ (k ++ (l ++ (m ++ (n ++ (o ++ (p ++ q)))))))))))))))
 
 -- every bench gives what is said, and bench h has 8 partial placements
 pub all-benches : (map (λ b. run (b .0)) benches ≡ map (λ b. b .1) benches) × (partials (figureOf hF) (patchOf hP) ≡ 8)
-unfolding run reader writer search triples linesOf figureOf patchOf connected verdict flatten packed layout bits word bitAt kindsHeld lineAt linesHeld kindBits lineBits triesOf planOf cut tried level firstSet attempt opening siblings skips joinSet lastSet takeable image placed user rowOf after inMask kindFits atFirst firstSets root rootFrom order orderFrom newcomers before parents union ancestors ancestorsFrom supported pass refined partialsOf partialsUpTo placings isPartial lineKept
+unfolding run reader writer search triples linesOf figureOf patchOf connected verdict flatten packed layout bits word bitAt kindsHeld lineAt linesHeld kindBits lineBits plugged dead triesOf planOf cut tried level firstSet attempt opening siblings skips joinSet lastSet takeable image placed user rowOf after inMask kindFits atFirst firstSets root rootFrom order orderFrom newcomers before parents union ancestors ancestorsFrom supported pass refined partialsOf partialsUpTo placings isPartial lineKept
 all-benches = (refl, refl)

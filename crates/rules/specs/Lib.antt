@@ -1,5 +1,6 @@
 -- The definitions: what a sheet, a place, a try, a partial placement and an answer are.
 pub mod Sheet
+pub mod Live
 pub mod Checks
 pub mod Graph
 pub mod Place
