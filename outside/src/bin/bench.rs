@@ -111,7 +111,7 @@ fn hard(to: &mut Vec<Case>, random: &mut Random) {
     });
 }
 
-/// Mixers with hundreds of lines, jacks with two or three, and figures of jacks that are plugged into two or
+/// Mixers with hundreds of lines, jacks with a few, and figures of jacks that are plugged into two or
 /// three mixers at once: the line test is asked of a mixer and a jack.
 fn mixers(to: &mut Vec<Case>, random: &mut Random) {
     let pool: Vec<u16> = (1..13).collect();
