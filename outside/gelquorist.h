@@ -94,7 +94,9 @@ struct gelquorist_checked {
  * - Order: the figure's checks, the patch's, 42 where rows_length is no multiple of the figure's n,
  *   then row by row 43 before 44.
  * - Whatever gelquorist_find lists is accepted: rows * n numbers of its list after 0, 1 or 2.
- * - Nothing lent is written, and no memory is asked for: it uses some 20,000 bytes of the stack. */
+ * - Nothing lent is written, and no memory is asked for: the call uses some 45,000 bytes of the
+ *   stack.
+ */
 struct gelquorist_checked gelquorist_check_rows(const uint8_t *figure, size_t figure_length,
                                                 const uint8_t *patch, size_t patch_length,
                                                 const uint16_t *rows, size_t rows_length);
