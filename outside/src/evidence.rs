@@ -440,9 +440,9 @@ impl<'a> Evidence<'a> {
         }
     }
 
-    /// Document 01's benches, each with what that page says of it, and one of our own.
+    /// Document 01's benches, each with what that page says of it, and some of our own.
     pub fn benches(&mut self) {
-        for bench in benches() {
+        for bench in benches().into_iter().chain(cut_lines()) {
             let n = check::figure(&bench.figure).map(|g| g.n()).unwrap_or(1);
             let case = Case { figure: &bench.figure, patch: &bench.patch, memory: bench.memory, list: bench.room * n, allowance: bench.allowance };
             let (found, list) = self.compare("benches", &case);
@@ -500,6 +500,36 @@ fn third_pass() -> Bench {
         tries: 0,
         rows: Vec::new(),
     }
+}
+
+/// Not of document 01: document 02, Wish 2. A normalled line of a patch, kinds 16 and `input` at its
+/// ends, and a second line at a given end to a vertex of a given kind: whether the place is there.
+fn cut_line(name: &'static str, input: u16, second: (u16, u16, u16), found: bool) -> Bench {
+    let patch = Graph { kinds: vec![16, input, 17], lines: vec![(2, 0, 1), second] };
+    let (tries, rows) = if found { (2, vec![0, 1]) } else { (0, Vec::new()) };
+    Bench {
+        name,
+        figure: encode(&graph(&[16, input], &[(0, 1)])),
+        patch: encode(&patch),
+        memory: MEMORY,
+        room: 9,
+        allowance: 99,
+        number: 0,
+        tries,
+        rows,
+    }
+}
+
+fn cut_lines() -> Vec<Bench> {
+    vec![
+        cut_line("a plug in the input", 32, (1, 1, 2), false),
+        cut_line("a plug in the output", 32, (1, 0, 2), true),
+        cut_line("a panel line is no plug", 32, (0, 1, 2), true),
+        cut_line("a normalled line is no plug", 32, (2, 1, 2), true),
+        cut_line("a plug at kind 31", 31, (1, 1, 2), true),
+        cut_line("a plug at kind 59", 59, (1, 1, 2), false),
+        cut_line("a plug at kind 60", 60, (1, 1, 2), true),
+    ]
 }
 
 fn benches() -> Vec<Bench> {

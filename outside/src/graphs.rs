@@ -72,9 +72,10 @@ pub fn mixed(random: &mut Random, graph: &Graph) -> Graph {
     renumbered(graph, &to)
 }
 
-/// A connected part of a patch of at most n vertices, grown from a vertex; of the lines that do not
+/// A connected part of a patch's live lines of at most n vertices, grown from a vertex; of the lines that do not
 /// join it together, each stays with the given chance, within a figure's 64.
 pub fn part(random: &mut Random, patch: &Graph, n: usize, keep: usize) -> Graph {
+    let patch = patch.live();
     let run = patch.neighbours();
     let mut taken = vec![random.below(patch.n())];
     let mut tree = BTreeSet::new();

@@ -40,7 +40,7 @@ pub fn check_rows(figure: &[u8], patch: &[u8], rows: &[u16]) -> Checked {
     if rows.len() % n != 0 {
         return Checked::refused(42);
     }
-    let mut test = Test { figure: &figure, patch: &patch, runs: patch.neighbours(), stamps: vec![0; patch.n()] };
+    let mut test = Test { figure: &figure, patch: &patch, runs: patch.live().neighbours(), stamps: vec![0; patch.n()] };
     let mut met = HashSet::with_capacity(rows.len() / n);
     for (i, row) in rows.chunks(n).enumerate() {
         if !test.is_place(row, i) {

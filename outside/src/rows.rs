@@ -9,7 +9,7 @@ fn is_place(figure: &Graph, patch: &Graph, row: &[u16]) -> bool {
     let inside = row.iter().all(|&v| (v as usize) < patch.n());
     let kinds = inside && (0..figure.n()).all(|u| figure.kinds[u] == patch.kinds[row[u] as usize]);
     let apart = (0..row.len()).all(|u| (0..u).all(|w| row[u] != row[w]));
-    let joined = |v: u16, w: u16| patch.lines.iter().any(|&(_, a, b)| (a, b) == (v, w) || (a, b) == (w, v));
+    let joined = |v: u16, w: u16| patch.live().lines.iter().any(|&(_, a, b)| (a, b) == (v, w) || (a, b) == (w, v));
     kinds && apart && figure.lines.iter().all(|&(_, a, b)| joined(row[a as usize], row[b as usize]))
 }
 

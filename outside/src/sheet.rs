@@ -1,6 +1,8 @@
 //! A graph as a sheet has it, and the sheet of a graph, put down bit by bit. Nothing is checked
 //! here, so that a sheet can be made wrong on purpose.
 
+use std::collections::BTreeSet;
+
 /// A line: type, first end, second end.
 pub type Line = (u16, u16, u16);
 
@@ -27,6 +29,16 @@ impl Graph {
             run.sort_unstable();
         }
         all
+    }
+
+    /// The same vertices with the live lines alone: of a patch, a normalled line is dead while any
+    /// cable meets an end of it whose kind is 32 to 59.
+    pub fn live(&self) -> Graph {
+        let cables = self.lines.iter().filter(|&&(t, _, _)| t == 1);
+        let met: BTreeSet<u16> = cables.flat_map(|&(_, a, b)| [a, b]).collect();
+        let cut: BTreeSet<u16> = met.into_iter().filter(|&v| (32..60).contains(&self.kinds[v as usize])).collect();
+        let dead = |&(t, a, b): &Line| t == 2 && (cut.contains(&a) || cut.contains(&b));
+        Graph { kinds: self.kinds.clone(), lines: self.lines.iter().copied().filter(|l| !dead(l)).collect() }
     }
 
     /// The line list of the reader and the writer: three numbers a line.

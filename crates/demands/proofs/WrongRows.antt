@@ -9,6 +9,7 @@ use Rattle.rules.specs.Sheet.{packed, layout, bits, word, bitAt, kindsHeld, lin
 use Rattle.rules.specs.Checks.{verdict}
 use Rattle.rules.specs.Place.{Place}
 use Rattle.rules.specs.Candidates.{order, orderFrom, newcomers}
+use Rattle.rules.specs.Live.{plugged, dead}
 use Rattle.rules.specs.Calls.{figureOf, patchOf, connected}
 use Rattle.rules.specs.RowCheck.{rowAt, rowChecks}
 use Rattle.rules.specs.Benches.{cF, cP}
@@ -32,7 +33,7 @@ twice-no-place rows same p = let e : _≡_ {A = ℕ} 0 1 = p .apart 0 1 (omega (
 module _ (f : RowsAsked → Checked) (meets : RowsMeets f) where
   -- one that refuses all (no rows are accepted)
   pub refuses-all-rows : ((a : RowsAsked) → f a .number ≢ 0) → ⊥
-  unfolding figureOf patchOf connected order orderFrom newcomers verdict rowChecks packed layout bits word bitAt kindsHeld lineAt linesHeld kindBits lineBits
+  unfolding figureOf patchOf connected order orderFrom newcomers verdict rowChecks packed layout bits word bitAt kindsHeld lineAt linesHeld kindBits lineBits plugged dead
   refuses-all-rows wrong = wrong (ask []) (rules.rows-accepted-exactly cF cP [] (meets (ask [])) .1 (refl, record { places = λ i h. absurd (omega (arith, h)); different = λ i j h k. absurd (omega (arith, k)) }))
 
   -- one that accepts all (a row with one patch vertex twice)
@@ -47,5 +48,5 @@ module _ (f : RowsAsked → Checked) (meets : RowsMeets f) where
 
   -- one that names the second of two bad rows
   pub second-bad-row : f (ask (0 ∷ 0 ∷ 1 ∷ 1 ∷ [])) .row ≢ 0 → ⊥
-  unfolding rowAt figureOf patchOf connected order orderFrom newcomers verdict rowChecks packed layout bits word bitAt kindsHeld lineAt linesHeld kindBits lineBits
+  unfolding rowAt figureOf patchOf connected order orderFrom newcomers verdict rowChecks packed layout bits word bitAt kindsHeld lineAt linesHeld kindBits lineBits plugged dead
   second-bad-row wrong = let rows : List ℕ = 0 ∷ 0 ∷ 1 ∷ 1 ∷ [] in wrong (rules.not-a-place-exactly cF cP rows (meets (ask rows)) 0 .1 (refl, record { there = omega arith; before = record { places = λ i h. absurd (omega (arith, h)); different = λ i j h k. absurd (omega (arith, k)) } }, twice-no-place rows refl) .1)

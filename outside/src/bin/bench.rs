@@ -140,10 +140,10 @@ fn cases() -> Vec<Case> {
     all
 }
 
-/// One case as text: counts, kinds and lines of the figure, then of the patch.
+/// One case as text: counts, kinds and lines of the figure, then kinds and live lines of the patch.
 fn text(case: &Case, index: usize) -> String {
     let mut out = format!("{} {index}\n", case.group);
-    for g in [&case.figure, &case.patch] {
+    for g in [&case.figure, &case.patch.live()] {
         writeln!(out, "{} {}", g.n(), g.lines.len()).unwrap();
         let kinds: Vec<String> = g.kinds.iter().map(|k| k.to_string()).collect();
         writeln!(out, "{}", kinds.join(" ")).unwrap();
