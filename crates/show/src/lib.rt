@@ -1,4 +1,7 @@
 // What the programs do: the places of the figure in figure.sheet in the patch in patch.sheet, printed. Thin over the proved call `find`.
+ghost use mathlib.Core.Path.{_≡_};
+ghost use Prim.Native.Nat.{_+_, _*_, _≤_, _<_};
+ghost use lib.ListN.{length};
 ghost use Rattle.io.specs.Counts.{Counts};
 ghost use Rattle.show.specs.Numbers.{Known};
 use find::find;
@@ -18,10 +21,13 @@ fn read_sheet(path: &[u8], bytes: &mut [u8; 5508]) -> usize
     n
 }
 
-// A number, and what stands after it.
-pub fn print(n: u64, after: u8) {
+// A number, and what stands after it; the number printed.
+pub fn print(n: u64, after: u8) -> u64
+    ensures { λ r. ⌜ r ≡ n ⌝ }
+{
     io::print_decimal(STDOUT_FILENO, n);
     io::write_all(STDOUT_FILENO, &[after]);
+    n
 }
 
 fn wide(v: u16) -> u64 {
@@ -42,19 +48,22 @@ fn print_row(row: &[u16]) {
     }
 }
 
-// The first rows of a list, of n entries each.
-pub fn print_rows(list: &[u16], rows: usize, n: usize) {
-    let mut left = rows;
+// The first rows of a list, of n entries each, as far as the list reaches; how many were printed.
+pub fn print_rows(list: &[u16], rows: usize, n: usize) -> usize
+    ensures { λ r. ⌜ (r ≤ rows) × (r * n ≤ length (now (list .entry))) × (r < rows → length (now (list .entry)) < r * n + n) ⌝ }
+{
+    let mut done = 0;
     let mut at = 0;
-    while 0 < left {
-        left -= 1;
+    while done < rows {
         if list.len() - at < n {
-            return;
+            return done;
         }
         let next = at + n;
         print_row(&list[at..next]);
         at = next;
+        done += 1;
     }
+    done
 }
 
 // Number, rows and tries on one line, then one line a row; the number, which is one of document 01's.
