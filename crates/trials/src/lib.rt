@@ -105,7 +105,9 @@ fn lend(
 }
 
 // The call for a figure of n vertices, with at most 22,600 numbers of memory and 8,192 of the list lent.
-pub fn run(figure: &[u8], patch: &[u8], n: usize, limits: Limits) -> Ran {
+pub fn run(figure: &[u8], patch: &[u8], n: usize, limits: Limits) -> Ran
+    ensures { λ r. ⌜ r .end ≤ 8192 ⌝ }
+{
     let mut memory = [54321u16; 22600];
     let mut list = [54321u16; 8192];
     let found = lend(figure, patch, &mut memory, &mut list, limits);
@@ -122,7 +124,9 @@ pub fn run(figure: &[u8], patch: &[u8], n: usize, limits: Limits) -> Ran {
 }
 
 // The call on the first bytes of two arrays.
-fn run_first(figure: &[u8], f: usize, patch: &[u8], p: usize, n: usize, limits: Limits) -> Ran {
+fn run_first(figure: &[u8], f: usize, patch: &[u8], p: usize, n: usize, limits: Limits) -> Ran
+    ensures { λ r. ⌜ r .end ≤ 8192 ⌝ }
+{
     let start = 0;
     if figure.len() < f || patch.len() < p {
         return run(figure, patch, n, limits);
@@ -131,7 +135,9 @@ fn run_first(figure: &[u8], f: usize, patch: &[u8], p: usize, n: usize, limits: 
 }
 
 // The call for a figure and a patch given as lists, whose sheets have at most 256 bytes.
-pub fn run_lists(fk: &[u16], fl: &[u16], pk: &[u16], pl: &[u16], limits: Limits) -> Ran {
+pub fn run_lists(fk: &[u16], fl: &[u16], pk: &[u16], pl: &[u16], limits: Limits) -> Ran
+    ensures { λ r. ⌜ r .end ≤ 8192 ⌝ }
+{
     let mut figure = [0u8; 256];
     let mut patch = [0u8; 256];
     let f = write(fk, fl, &mut figure);
