@@ -14,37 +14,37 @@ use Rattle.rules.specs.Graph.{Drawn, Connected}
 use Rattle.rules.specs.Place.{Checked}
 use Rattle.rules.specs.Sheet.{Line, vertexCount, lineCount, bitLength, byteLength, bitAt, held, kindsHeld}
 use Rattle.rules.specs.Live.{live}
-use Rattle.rules.specs.Checks.{Check, verdict, FirstToFail, fails, passes, Limits, figureLimits, patchLimits, counted, cleared, lineFits, comesAfter, follows, Drawable, lineChecks, sheetChecks, Accepted}
+use Rattle.rules.specs.Checks.{Verdict, lineless, Check, verdict, FirstToFail, fails, passes, Limits, figureLimits, patchLimits, counted, cleared, lineFits, comesAfter, follows, Drawable, lineChecks, sheetChecks, Accepted}
 use Rattle.rules.specs.Calls.{endsOf, graphOf, figureOf, patchOf, connected, figureChecks, searchChecks, searchRefusals, Handed}
 use Rattle.laws.proofs.Lists.{split, has-out, keep-out, keep-ordered, all-in, all-out, upto-in, upto-out, length-map-upto}
 use Rattle.rules.proofs.Breadth.{connected-iff}
 
 -- the verdict on a list of checks is 0 exactly where each check passes, if no check has number 0
-pub verdict-cons : (c : Check) (cs : List Check) → 0 < c .1 → (verdict (c ∷ cs) ≡ 0) ↔ ((c .0 ≡ true) × (verdict cs ≡ 0))
+pub verdict-cons : (c : Check) (cs : List Check) → 0 < c .1 .number → (verdict (c ∷ cs) .number ≡ 0) ↔ ((c .0 ≡ true) × (verdict cs .number ≡ 0))
 unfolding verdict
 verdict-cons c cs h = elim (split (c .0)) [ inl e ↦ rw e (λ v. (refl, v), λ v. v .1) | inr e ↦ rw e (λ v. absurd (omega arith), λ v. absurd (false≢true (v .0))) ]
 
 -- a number is given exactly where its check is the first to fail
-fail-out : (cs : List Check) (k : ℕ) → 0 < k → verdict cs ≡ k → FirstToFail k cs
+fail-out : (cs : List Check) (k : ℕ) → 0 < k → verdict cs .number ≡ k → FirstToFail k cs
 unfolding verdict
 fail-out [] k h e = absurd (omega arith)
 fail-out (c ∷ cs) k h e = elim (split (c .0)) [ inl t ↦ passes t (fail-out cs k h (rw t at e)) | inr t ↦ fails t (rw t at e) ]
 
-fail-in : {cs : List Check} (k : ℕ) → FirstToFail k cs → verdict cs ≡ k
+fail-in : {cs : List Check} (k : ℕ) → FirstToFail k cs → verdict cs .number ≡ k
 unfolding verdict
 fail-in k (fails t e) = rw t e
 fail-in k (passes t f) = rw t (fail-in k f)
 
-pub first-to-fail : (cs : List Check) (k : ℕ) → 0 < k → (verdict cs ≡ k) ↔ FirstToFail k cs
+pub first-to-fail : (cs : List Check) (k : ℕ) → 0 < k → (verdict cs .number ≡ k) ↔ FirstToFail k cs
 first-to-fail cs k h = (fail-out cs k h, fail-in k)
 
 -- checks are numbered by numbers of a list
 abbrev pub Numbered : List ℕ → List Check → Type 0
-Numbered ns cs = (c : Check) → List·Memᴰ c cs → List·Memᴰ (c .1) ns
+Numbered ns cs = (c : Check) → List·Memᴰ c cs → List·Memᴰ (c .1 .number) ns
 
 -- and so they are one after the other
-pub numbered-cons : {ns : List ℕ} {b : Bool} {k : ℕ} {cs : List Check} → List·Memᴰ k ns → Numbered ns cs → Numbered ns ((b, k) ∷ cs)
-numbered-cons m f c i = ⊎-elim (λ e. Memᴰ·cast (ap (λ d. d .1) e) m) (f c) (List·Memᴰ·cases-cons i)
+pub numbered-cons : {ns : List ℕ} {b : Bool} {v : Verdict} {cs : List Check} → List·Memᴰ (v .number) ns → Numbered ns cs → Numbered ns ((b, v) ∷ cs)
+numbered-cons m f c i = ⊎-elim (λ e. Memᴰ·cast (ap (λ d. d .1 .number) e) m) (f c) (List·Memᴰ·cases-cons i)
 
 pub numbered-append : {ns : List ℕ} (cs : List Check) {ds : List Check} → Numbered ns cs → Numbered ns ds → Numbered ns (cs ++ ds)
 numbered-append cs f g c i = ⊎-elim (f c) (g c) (List·Memᴰ·append-cases cs i)
@@ -52,12 +52,12 @@ numbered-append cs f g c i = ⊎-elim (f c) (g c) (List·Memᴰ·append-cases cs
 pub numbered-nil : {ns : List ℕ} → Numbered ns []
 numbered-nil c i = absurd (List·Memᴰ·not-nil i)
 
-pub lines-numbered : {ns : List ℕ} (ten n : ℕ) → List·Memᴰ (ten + 4) ns → List·Memᴰ (ten + 5) ns → (before : Option Line) (ls : List Line) → Numbered ns (lineChecks ten n before ls)
-lines-numbered ten n f g before [] = numbered-nil
-lines-numbered ten n f g before (l ∷ ls) = numbered-cons f (numbered-cons g (lines-numbered ten n f g (some l) ls))
+pub lines-numbered : {ns : List ℕ} (ten n : ℕ) → List·Memᴰ (ten + 4) ns → List·Memᴰ (ten + 5) ns → (j : ℕ) (before : Option Line) (ls : List Line) → Numbered ns (lineChecks ten n j before ls)
+lines-numbered ten n f g j before [] = numbered-nil
+lines-numbered ten n f g j before (l ∷ ls) = numbered-cons f (numbered-cons g (lines-numbered ten n f g (suc j) (some l) ls))
 
 pub sheet-numbered : {ns : List ℕ} (L : Limits) → ((i : ℕ) → i < 5 → List·Memᴰ (L .ten + suc i) ns) → (bytes : List ℕ) → Numbered ns (sheetChecks L bytes)
-sheet-numbered L each bytes = numbered-cons (each 0 (omega arith)) (numbered-cons (each 1 (omega arith)) (numbered-cons (each 0 (omega arith)) (numbered-cons (each 2 (omega arith)) (lines-numbered (L .ten) _ (each 3 (omega arith)) (each 4 (omega arith)) none (held bytes .lines)))))
+sheet-numbered L each bytes = numbered-cons (each 0 (omega arith)) (numbered-cons (each 1 (omega arith)) (numbered-cons (each 0 (omega arith)) (numbered-cons (each 2 (omega arith)) (lines-numbered (L .ten) _ (each 3 (omega arith)) (each 4 (omega arith)) 0 none (held bytes .lines)))))
 
 -- the numbers of a list are from 11 up
 abbrev pub From11 : List ℕ → Type 0
@@ -67,7 +67,7 @@ pub from-11 : {k : ℕ} {ns : List ℕ} → From11 ns → List·Memᴰ k ns → 
 from-11 {k} f m = ltb-true 10 k (all-out (ltb 10) m f)
 
 -- a verdict is 0 or one of the numbers
-pub verdict-number : {ns : List ℕ} (cs : List Check) → Numbered ns cs → (verdict cs ≡ 0) ⊎ List·Memᴰ (verdict cs) ns
+pub verdict-number : {ns : List ℕ} (cs : List Check) → Numbered ns cs → (verdict cs .number ≡ 0) ⊎ List·Memᴰ (verdict cs .number) ns
 unfolding verdict
 verdict-number [] h = inl refl
 verdict-number (c ∷ cs) h = elim (split (c .0)) [ inl e ↦ rw e (verdict-number cs (λ d m. h d (List·Memᴰ·tail m))) | inr e ↦ rw e (inr (h c (List·Memᴰ·head refl))) ]
@@ -75,24 +75,24 @@ verdict-number (c ∷ cs) h = elim (split (c .0)) [ inl e ↦ rw e (verdict-numb
 -- the checks of a list have numbers above 0
 abbrev pub Positive : List Check → Type 0
 Positive [] = Unit
-Positive (c ∷ cs) = (0 < c .1) × Positive cs
+Positive (c ∷ cs) = (0 < c .1 .number) × Positive cs
 
 pub numbered-positive : {ns : List ℕ} → From11 ns → (cs : List Check) → Numbered ns cs → Positive cs
 numbered-positive f [] h = tt
 numbered-positive f (c ∷ cs) h = (omega (arith, from-11 f (h c (List·Memᴰ·head refl))), numbered-positive f cs (λ d m. h d (List·Memᴰ·tail m)))
 
 -- a number from the first checks stands, and after 0 the later checks say
-pub verdict-first : (cs ds : List Check) → (verdict cs ≡ 0 → ⊥) → verdict (cs ++ ds) ≡ verdict cs
+pub verdict-first : (cs ds : List Check) → (verdict cs .number ≡ 0 → ⊥) → verdict (cs ++ ds) ≡ verdict cs
 unfolding verdict
 verdict-first [] ds f = absurd (f refl)
 verdict-first (c ∷ cs) ds f = elim (split (c .0)) [ inl e ↦ rw e (verdict-first cs ds (λ z. f (rw e z))) | inr e ↦ rw e ]
 
-pub verdict-rest : (cs ds : List Check) → Positive cs → verdict cs ≡ 0 → verdict (cs ++ ds) ≡ verdict ds
+pub verdict-rest : (cs ds : List Check) → Positive cs → verdict cs .number ≡ 0 → verdict (cs ++ ds) ≡ verdict ds
 unfolding verdict
 verdict-rest [] ds p h = refl
 verdict-rest (c ∷ cs) ds p h = elim (split (c .0)) [ inl e ↦ rw e (verdict-rest cs ds (p .1) (rw e at h)) | inr e ↦ absurd (omega (arith, p .0, rw e at h)) ]
 
-pub verdict-append : {ns : List ℕ} → From11 ns → (cs ds : List Check) → Numbered ns cs → (verdict (cs ++ ds) ≡ 0) ↔ ((verdict cs ≡ 0) × (verdict ds ≡ 0))
+pub verdict-append : {ns : List ℕ} → From11 ns → (cs ds : List Check) → Numbered ns cs → (verdict (cs ++ ds) .number ≡ 0) ↔ ((verdict cs .number ≡ 0) × (verdict ds .number ≡ 0))
 unfolding verdict
 verdict-append f [] ds h = (λ v. (refl, v), λ v. v .1)
 verdict-append f (c ∷ cs) ds h =
@@ -127,12 +127,12 @@ after-on k l p e f = elim (after-out k l e) [
 
 -- lines pass their checks exactly where a sheet may have them
 module _ (ten n : ℕ) where
-  lines-out : (before : Option Line) (ls : List Line) → verdict (lineChecks ten n before ls) ≡ 0 → Drawable n ls × ((l : Line) → List·Memᴰ l ls → follows before l ≡ true)
-  lines-out before [] v = (record { fit = λ l m. absurd (List·Memᴰ·not-nil m); ascend = nil }, λ l m. absurd (List·Memᴰ·not-nil m))
-  lines-out before (l ∷ ls) v =
-      let a = verdict-cons (lineFits n l, ten + 4) ((follows before l, ten + 5) ∷ lineChecks ten n (some l) ls) (omega arith) .0 v in
-      let b = verdict-cons (follows before l, ten + 5) (lineChecks ten n (some l) ls) (omega arith) .0 (a .1) in
-      let r = lines-out (some l) ls (b .1) in (
+  lines-out : (j : ℕ) (before : Option Line) (ls : List Line) → verdict (lineChecks ten n j before ls) .number ≡ 0 → Drawable n ls × ((l : Line) → List·Memᴰ l ls → follows before l ≡ true)
+  lines-out j before [] v = (record { fit = λ l m. absurd (List·Memᴰ·not-nil m); ascend = nil }, λ l m. absurd (List·Memᴰ·not-nil m))
+  lines-out j before (l ∷ ls) v =
+      let a = verdict-cons (lineFits n l, record { number = ten + 4; line = j }) ((follows before l, record { number = ten + 5; line = j }) ∷ lineChecks ten n (suc j) (some l) ls) (omega arith) .0 v in
+      let b = verdict-cons (follows before l, record { number = ten + 5; line = j }) (lineChecks ten n (suc j) (some l) ls) (omega arith) .0 (a .1) in
+      let r = lines-out (suc j) (some l) ls (b .1) in (
         record {
           fit = λ k m. ⊎-elim (λ e. rw e (fits-iff n l .0 (a .0))) (r .0 .fit k) (List·Memᴰ·cases-cons m);
           ascend = cons (r .1) (r .0 .ascend);
@@ -144,13 +144,13 @@ module _ (ten n : ℕ) where
       carried none e k f = refl
       carried (some p) e k f = after-on p l k e f
 
-  lines-in : (before : Option Line) {ls : List Line} → ((l : Line) → List·Memᴰ l ls → lineFits n l ≡ true) → Ordered (λ k l. comesAfter k l ≡ true) ls → ((l : Line) → List·Memᴰ l ls → follows before l ≡ true) → verdict (lineChecks ten n before ls) ≡ 0
+  lines-in : (j : ℕ) (before : Option Line) {ls : List Line} → ((l : Line) → List·Memᴰ l ls → lineFits n l ≡ true) → Ordered (λ k l. comesAfter k l ≡ true) ls → ((l : Line) → List·Memᴰ l ls → follows before l ≡ true) → verdict (lineChecks ten n j before ls) .number ≡ 0
   unfolding verdict
-  lines-in before fit nil f = refl
-  lines-in before fit (cons {x = l} g o) f = rw (fit l (List·Memᴰ·head refl), f l (List·Memᴰ·head refl)) (lines-in (some l) (λ k m. fit k (List·Memᴰ·tail m)) o g)
+  lines-in j before fit nil f = refl
+  lines-in j before fit (cons {x = l} g o) f = rw (fit l (List·Memᴰ·head refl), f l (List·Memᴰ·head refl)) (lines-in (suc j) (some l) (λ k m. fit k (List·Memᴰ·tail m)) o g)
 
-  pub lines-iff : (ls : List Line) → (verdict (lineChecks ten n none ls) ≡ 0) ↔ Drawable n ls
-  lines-iff ls = (λ v. lines-out none ls v .0, λ D. lines-in none (λ l m. fits-iff n l .1 (D .fit l m)) (D .ascend) (λ l m. refl))
+  pub lines-iff : (ls : List Line) → (verdict (lineChecks ten n 0 none ls) .number ≡ 0) ↔ Drawable n ls
+  lines-iff ls = (λ v. lines-out 0 none ls v .0, λ D. lines-in 0 none (λ l m. fits-iff n l .1 (D .fit l m)) (D .ascend) (λ l m. refl))
 
 -- the counts are within the limits exactly where their test passes
 pub counted-iff : (L : Limits) (n m : ℕ) → (counted L n m ≡ true) ↔ ((0 < n) × (n ≤ L .vertices) × (m ≤ L .lines))
@@ -168,29 +168,29 @@ module _ (L : Limits) (bytes : List ℕ) where
   cleared-iff = (λ e i h k. eqb-true _ _ (all-out _ (upto-in (8 * length bytes - bitLength n m) (bitLength n m) h (omega arith)) e), λ f. all-in _ _ (λ i k. let t = upto-out (8 * length bytes - bitLength n m) (bitLength n m) k in eq-eqb _ _ (f i (t .0) (omega arith))))
 
   -- a sheet is accepted exactly where it is as the checks say
-  pub accepted-iff : (verdict (sheetChecks L bytes) ≡ 0) ↔ Accepted L bytes
+  pub accepted-iff : (verdict (sheetChecks L bytes) .number ≡ 0) ↔ Accepted L bytes
   unfolding verdict
   accepted-iff = (there, back)
     where
       rest₃ : List Check
-      rest₃ = lineChecks (L .ten) n none (held bytes .lines)
+      rest₃ = lineChecks (L .ten) n 0 none (held bytes .lines)
 
       rest₂ : List Check
-      rest₂ = (cleared bytes, L .ten + 3) ∷ rest₃
+      rest₂ = (cleared bytes, lineless (L .ten + 3)) ∷ rest₃
 
       rest₁ : List Check
-      rest₁ = (eqb (length bytes) (byteLength n m), L .ten + 1) ∷ rest₂
+      rest₁ = (eqb (length bytes) (byteLength n m), lineless (L .ten + 1)) ∷ rest₂
 
-      there : verdict (sheetChecks L bytes) ≡ 0 → Accepted L bytes
+      there : verdict (sheetChecks L bytes) .number ≡ 0 → Accepted L bytes
       there v =
-          let a = verdict-cons (leb 3 (length bytes), L .ten + 1) ((counted L n m, L .ten + 2) ∷ rest₁) (omega arith) .0 v in
-          let b = verdict-cons (counted L n m, L .ten + 2) rest₁ (omega arith) .0 (a .1) in
-          let c = verdict-cons (eqb (length bytes) (byteLength n m), L .ten + 1) rest₂ (omega arith) .0 (b .1) in
-          let d = verdict-cons (cleared bytes, L .ten + 3) rest₃ (omega arith) .0 (c .1) in
+          let a = verdict-cons (leb 3 (length bytes), lineless (L .ten + 1)) ((counted L n m, lineless (L .ten + 2)) ∷ rest₁) (omega arith) .0 v in
+          let b = verdict-cons (counted L n m, lineless (L .ten + 2)) rest₁ (omega arith) .0 (a .1) in
+          let c = verdict-cons (eqb (length bytes) (byteLength n m), lineless (L .ten + 1)) rest₂ (omega arith) .0 (b .1) in
+          let d = verdict-cons (cleared bytes, lineless (L .ten + 3)) rest₃ (omega arith) .0 (c .1) in
           let t = counted-iff L n m .0 (b .0) in
           record { vertex = t .0; vertices = t .1; lines = t .2; long = eqb-true _ _ (c .0); filling = cleared-iff .0 (d .0); drawn = lines-iff (L .ten) n _ .0 (d .1) }
 
-      back : Accepted L bytes → verdict (sheetChecks L bytes) ≡ 0
+      back : Accepted L bytes → verdict (sheetChecks L bytes) .number ≡ 0
       back A = rw (le-leb 3 (length bytes) (omega arith), counted-iff L n m .1 (A .vertex, A .vertices, A .lines), eq-eqb _ _ (A .long), cleared-iff .1 (A .filling)) (lines-iff (L .ten) n _ .1 (A .drawn))
 
 -- lines each after the one before it are different as pairs of ends
@@ -256,14 +256,14 @@ module _ (figure patch memory : List ℕ) where
   search-numbered = numbered-append (figureChecks figure) (figure-numbered figure) (numbered-append (sheetChecks patchLimits patch) (patch-numbered patch) (numbered-cons (has-out 31 _ refl) numbered-nil))
 
   -- a search is not refused exactly where it is handed what the checks say
-  pub handed-iff : (verdict (searchChecks figure patch memory) ≡ 0) ↔ Handed figure patch memory
+  pub handed-iff : (verdict (searchChecks figure patch memory) .number ≡ 0) ↔ Handed figure patch memory
   unfolding verdict
   handed-iff = (
     λ v. let a = f .0 v in let b = s .0 (a .0) in let c = p .0 (a .1) in let F = accepted-iff figureLimits figure .0 (b .0) in record {
       figure = F;
-      connected = linked F .0 (verdict-cons (connected (figureOf figure), 16) [] (omega arith) .0 (b .1) .0);
+      connected = linked F .0 (verdict-cons (connected (figureOf figure), lineless 16) [] (omega arith) .0 (b .1) .0);
       patch = accepted-iff patchLimits patch .0 (c .0);
-      memory = leb-true 22_528 _ (verdict-cons (leb 22_528 (length memory), 31) [] (omega arith) .0 (c .1) .0);
+      memory = leb-true 22_528 _ (verdict-cons (leb 22_528 (length memory), lineless 31) [] (omega arith) .0 (c .1) .0);
     },
     λ H. f .1 (s .1 (accepted-iff figureLimits figure .1 (H .figure), rw (linked (H .figure) .1 (H .connected))), p .1 (accepted-iff patchLimits patch .1 (H .patch), rw (le-leb 22_528 _ (H .memory)))),
   )
@@ -271,13 +271,13 @@ module _ (figure patch memory : List ℕ) where
       linked : Accepted figureLimits figure → (connected (figureOf figure) ≡ true) ↔ Connected (figureOf figure .graph)
       linked A = let D = figure-drawn figure A in connected-iff (figureOf figure) (D .0) (D .1)
 
-      s : (verdict (figureChecks figure) ≡ 0) ↔ ((verdict (sheetChecks figureLimits figure) ≡ 0) × (verdict ((connected (figureOf figure), 16) ∷ []) ≡ 0))
+      s : (verdict (figureChecks figure) .number ≡ 0) ↔ ((verdict (sheetChecks figureLimits figure) .number ≡ 0) × (verdict ((connected (figureOf figure), lineless 16) ∷ []) .number ≡ 0))
       s = verdict-append {ns = searchRefusals} refl (sheetChecks figureLimits figure) _ (figure-sheet-numbered figure)
 
-      p : (verdict (sheetChecks patchLimits patch ++ (leb 22_528 (length memory), 31) ∷ []) ≡ 0) ↔ ((verdict (sheetChecks patchLimits patch) ≡ 0) × (verdict ((leb 22_528 (length memory), 31) ∷ []) ≡ 0))
+      p : (verdict (sheetChecks patchLimits patch ++ (leb 22_528 (length memory), lineless 31) ∷ []) .number ≡ 0) ↔ ((verdict (sheetChecks patchLimits patch) .number ≡ 0) × (verdict ((leb 22_528 (length memory), lineless 31) ∷ []) .number ≡ 0))
       p = verdict-append {ns = searchRefusals} refl (sheetChecks patchLimits patch) _ (patch-numbered patch)
 
-      f : (verdict (searchChecks figure patch memory) ≡ 0) ↔ ((verdict (figureChecks figure) ≡ 0) × (verdict (sheetChecks patchLimits patch ++ (leb 22_528 (length memory), 31) ∷ []) ≡ 0))
+      f : (verdict (searchChecks figure patch memory) .number ≡ 0) ↔ ((verdict (figureChecks figure) .number ≡ 0) × (verdict (sheetChecks patchLimits patch ++ (leb 22_528 (length memory), lineless 31) ∷ []) .number ≡ 0))
       f = verdict-append {ns = searchRefusals} refl (figureChecks figure) _ (figure-numbered figure)
 
 -- and then the figure is what the demands ask for

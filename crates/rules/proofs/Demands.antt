@@ -8,13 +8,13 @@ use native.Mathlib.Omega.{arith}
 use lib.ListN.{length, take, drop, replicate}
 use Rattle.laws.specs.Lists.{any, null, Begins, Ordered, nil}
 use Rattle.rules.specs.Sheet.{Bytes, byteLength}
-use Rattle.rules.specs.Checks.{FirstToFail, verdict}
+use Rattle.rules.specs.Checks.{Verdict, noLine, FirstToFail, verdict}
 use Rattle.rules.specs.Place.{Figure, Patch, Placed, Place, Before, AllPlaces}
 use Rattle.rules.specs.Candidates.{orderOf, setsOf}
 use Rattle.rules.specs.Tries.{triesOf}
 use Rattle.rules.specs.Partials.{Partial, partialsOf, partials}
 use Rattle.rules.specs.Answer.{Cut, answer, allRows}
-use Rattle.rules.specs.Calls.{over, reader, readerChecks, readerRefusals, ReaderHanded, writer, writerChecks, writerRefusals, WriterHanded, figureOf, patchOf, searchChecks, searchRefusals, Handed, Searched, Taken, roomOf, answered, refused, search, found}
+use Rattle.rules.specs.Calls.{over, unread, reader, readerChecks, readerRefusals, ReaderHanded, unwritten, writer, writerChecks, writerRefusals, WriterHanded, figureOf, patchOf, searchChecks, searchRefusals, Handed, Searched, Taken, roomOf, answered, refused, search, found}
 use Rattle.laws.proofs.Lists.{no-member}
 use Rattle.rules.proofs.Accepted.{first-to-fail, from-11, handed-checked}
 use Rattle.rules.proofs.Partials.{partials-exactly, partials-once}
@@ -47,12 +47,12 @@ module _ (figure patch memory list : List ℕ) (allowance : ℕ) where
   pub first-check-to-fail : (k : ℕ) → 10 < k → (result .number ≡ k) ↔ FirstToFail k (searchChecks figure patch memory)
   first-check-to-fail k h = calls.search-cases figure patch memory list allowance (λ s. (s .number ≡ k) ↔ FirstToFail k (searchChecks figure patch memory)) (λ H. (λ e. absurd (omega (arith, answers.true-reason F P (roomOf figure list) allowance .numbers)), λ f. absurd (omega (arith, calls.passing H, checks .1 f)))) (λ m. checks)
     where
-      checks : (verdict (searchChecks figure patch memory) ≡ k) ↔ FirstToFail k (searchChecks figure patch memory)
+      checks : (verdict (searchChecks figure patch memory) .number ≡ k) ↔ FirstToFail k (searchChecks figure patch memory)
       checks = first-to-fail (searchChecks figure patch memory) k (omega arith)
 
   -- a refusal returns 0 rows and 0 tries, and writes nothing
-  pub refusal-writes-nothing : List·Memᴰ (result .number) searchRefusals → result ≡ refused (result .number) list memory
-  refusal-writes-nothing = calls.search-cases figure patch memory list allowance (λ s. List·Memᴰ (s .number) searchRefusals → s ≡ refused (s .number) list memory) (λ H m. absurd (omega (arith, from-11 {ns = searchRefusals} refl m, answers.true-reason F P (roomOf figure list) allowance .numbers))) (λ m _. refl)
+  pub refusal-writes-nothing : List·Memᴰ (result .number) searchRefusals → result ≡ refused (record { number = result .number; line = result .line }) list memory
+  refusal-writes-nothing = calls.search-cases figure patch memory list allowance (λ s. List·Memᴰ (s .number) searchRefusals → s ≡ refused (record { number = s .number; line = s .line }) list memory) (λ H m. absurd (omega (arith, from-11 {ns = searchRefusals} refl m, answers.true-reason F P (roomOf figure list) allowance .numbers))) (λ m _. refl)
 
   -- a taken call zeroes all the working memory
   pub memory-zeroed : Taken result → result .memory ≡ replicate (length memory) 0
@@ -144,23 +144,24 @@ module _ (figure patch memory list : List ℕ) (allowance : ℕ) where
   pub that-many-suffice : partials F P ≤ allowance → result .number ≢ 2
   that-many-suffice h = calls.search-cases figure patch memory list allowance (λ s. s .number ≢ 2) (λ H. answers.never-spent F P (handed-checked H) (roomOf figure list) allowance h) (λ m e. omega (arith, from-11 {ns = searchRefusals} refl m))
 
--- two searches come back with the same number, counts and list
+-- two searches come back with the same number, line, counts and list
 pub record Alike (r s : Searched) : Type 0 where
   pub number : r .number ≡ s .number
+  pub line : r .line ≡ s .line
   pub rows : r .rows ≡ s .rows
   pub tries : r .tries ≡ s .tries
   pub list : r .list ≡ s .list
 
 -- DEMAND 1. The old contents of the working memory change nothing, nor does its length past the least.
 pub memory-forgotten : (figure patch memory memory′ list : List ℕ) (allowance : ℕ) → (length memory ≡ length memory′) ⊎ ((22_528 ≤ length memory) × (22_528 ≤ length memory′)) → Alike (search figure patch memory list allowance) (search figure patch memory′ list allowance)
-memory-forgotten figure patch memory memory′ list allowance same = calls.search-cases figure patch memory list allowance (λ s. Alike s (search figure patch memory′ list allowance)) (λ H. rw (calls.taken figure patch memory′ list allowance (calls.handed-memory {figure = figure} {patch = patch} {memory = memory} {memory′ = memory′} H (long same H))) (record { number = refl; rows = refl; tries = refl; list = refl })) (λ m. both m same)
+memory-forgotten figure patch memory memory′ list allowance same = calls.search-cases figure patch memory list allowance (λ s. Alike s (search figure patch memory′ list allowance)) (λ H. rw (calls.taken figure patch memory′ list allowance (calls.handed-memory {figure = figure} {patch = patch} {memory = memory} {memory′ = memory′} H (long same H))) (record { number = refl; line = refl; rows = refl; tries = refl; list = refl })) (λ m. both m same)
   where
     long : (length memory ≡ length memory′) ⊎ ((22_528 ≤ length memory) × (22_528 ≤ length memory′)) → Handed figure patch memory → 22_528 ≤ length memory′
     long (inl e) H = omega (arith, H .memory)
     long (inr b) H = b .1
 
-    both : List·Memᴰ (verdict (searchChecks figure patch memory)) searchRefusals → (length memory ≡ length memory′) ⊎ ((22_528 ≤ length memory) × (22_528 ≤ length memory′)) → Alike (refused (verdict (searchChecks figure patch memory)) list memory) (search figure patch memory′ list allowance)
-    both m same = calls.search-cases figure patch memory′ list allowance (λ s. Alike (refused (verdict (searchChecks figure patch memory)) list memory) s) (λ H. absurd (calls.not-handed {figure = figure} {patch = patch} {memory = memory} m (calls.handed-memory {figure = figure} {patch = patch} {memory = memory′} {memory′ = memory} H (back same H)))) (λ m′. record { number = calls.same-verdict figure patch memory memory′ same; rows = refl; tries = refl; list = refl })
+    both : List·Memᴰ (verdict (searchChecks figure patch memory) .number) searchRefusals → (length memory ≡ length memory′) ⊎ ((22_528 ≤ length memory) × (22_528 ≤ length memory′)) → Alike (refused (verdict (searchChecks figure patch memory)) list memory) (search figure patch memory′ list allowance)
+    both m same = calls.search-cases figure patch memory′ list allowance (λ s. Alike (refused (verdict (searchChecks figure patch memory)) list memory) s) (λ H. absurd (calls.not-handed {figure = figure} {patch = patch} {memory = memory} m (calls.handed-memory {figure = figure} {patch = patch} {memory = memory′} {memory′ = memory} H (back same H)))) (λ m′. record { number = ap (λ v. v .number) (calls.same-verdict figure patch memory memory′ same); line = ap (λ v. v .line) (calls.same-verdict figure patch memory memory′ same); rows = refl; tries = refl; list = refl })
       where
         back : (length memory ≡ length memory′) ⊎ ((22_528 ≤ length memory) × (22_528 ≤ length memory′)) → Handed figure patch memory′ → 22_528 ≤ length memory
         back (inl e) H = omega (arith, H .memory)
@@ -201,8 +202,8 @@ module _ (bytes kindList lineList : List ℕ) where
   reads-exactly = (λ e. elim (reader-either bytes kindList lineList) [ inl a ↦ a .0 | inr a ↦ absurd (omega (arith, from-11 {ns = readerRefusals} refl (a .0), ap (λ r. r .number) (a .1))) ], λ H. rw (reader-taken bytes kindList lineList H))
 
   -- else it refuses by the number of the first check to fail, with zero counts, and changes nothing
-  pub reader-refuses : (reader bytes kindList lineList .number ≡ 0) ⊎ ((k : ℕ) × List·Memᴰ k readerRefusals × FirstToFail k (readerChecks bytes kindList lineList) × (reader bytes kindList lineList ≡ record { number = k; vertices = 0; lines = 0; kindList = kindList; lineList = lineList }))
-  reader-refuses = elim (reader-either bytes kindList lineList) [ inl a ↦ inl (reads-exactly .1 (a .0)) | inr a ↦ inr (verdict (readerChecks bytes kindList lineList), a .0, first-to-fail (readerChecks bytes kindList lineList) (verdict (readerChecks bytes kindList lineList)) (omega (arith, from-11 {ns = readerRefusals} refl (a .0))) .0 refl, a .1) ]
+  pub reader-refuses : (reader bytes kindList lineList .number ≡ 0) ⊎ ((v : Verdict) × List·Memᴰ (v .number) readerRefusals × FirstToFail (v .number) (readerChecks bytes kindList lineList) × (reader bytes kindList lineList ≡ unread v kindList lineList))
+  reader-refuses = elim (reader-either bytes kindList lineList) [ inl a ↦ inl (reads-exactly .1 (a .0)) | inr a ↦ inr (verdict (readerChecks bytes kindList lineList), a .0, first-to-fail (readerChecks bytes kindList lineList) (verdict (readerChecks bytes kindList lineList) .number) (omega (arith, from-11 {ns = readerRefusals} refl (a .0))) .0 refl, a .1) ]
 
   -- it changes only the first n and 3m numbers
   pub reader-changes-only : let r = reader bytes kindList lineList in (drop (r .vertices) (r .kindList) ≡ drop (r .vertices) kindList) × (drop (3 * r .lines) (r .lineList) ≡ drop (3 * r .lines) lineList)
@@ -215,19 +216,19 @@ module _ (kindList lineList bytes : List ℕ) where
   writes-exactly = (λ e. elim (writer-either kindList lineList bytes) [ inl a ↦ a .0 | inr a ↦ absurd (omega (arith, from-11 {ns = writerRefusals} refl (a .0), ap (λ w. w .number) (a .1))) ], λ H. rw (writer-taken kindList lineList bytes H))
 
   -- else it refuses by the number of the first check to fail, with a zero count, and changes nothing
-  pub writer-refuses : (writer kindList lineList bytes .number ≡ 0) ⊎ ((k : ℕ) × List·Memᴰ k writerRefusals × FirstToFail k (writerChecks kindList lineList bytes) × (writer kindList lineList bytes ≡ record { number = k; count = 0; bytes = bytes }))
-  writer-refuses = elim (writer-either kindList lineList bytes) [ inl a ↦ inl (writes-exactly .1 (a .0)) | inr a ↦ inr (verdict (writerChecks kindList lineList bytes), a .0, first-to-fail (writerChecks kindList lineList bytes) (verdict (writerChecks kindList lineList bytes)) (omega (arith, from-11 {ns = writerRefusals} refl (a .0))) .0 refl, a .1) ]
+  pub writer-refuses : (writer kindList lineList bytes .number ≡ 0) ⊎ ((v : Verdict) × List·Memᴰ (v .number) writerRefusals × FirstToFail (v .number) (writerChecks kindList lineList bytes) × (writer kindList lineList bytes ≡ unwritten v bytes))
+  writer-refuses = elim (writer-either kindList lineList bytes) [ inl a ↦ inl (writes-exactly .1 (a .0)) | inr a ↦ inr (verdict (writerChecks kindList lineList bytes), a .0, first-to-fail (writerChecks kindList lineList bytes) (verdict (writerChecks kindList lineList bytes) .number) (omega (arith, from-11 {ns = writerRefusals} refl (a .0))) .0 refl, a .1) ]
 
   -- it changes only the bytes that it counts
   pub writer-changes-only : let w = writer kindList lineList bytes in drop (w .count) (w .bytes) ≡ drop (w .count) bytes
   writer-changes-only = elim (writer-either kindList lineList bytes) [ inl a ↦ writer-untouched kindList lineList bytes (a .0) | inr a ↦ rw (a .1) ]
 
 -- DEMAND 2. A sheet that was read, written again, is the same bytes.
-pub read-then-written : (bytes kindList lineList out : List ℕ) → Bytes bytes → length bytes ≤ length out → let r = reader bytes kindList lineList in r .number ≡ 0 → writer (take (r .vertices) (r .kindList)) (take (3 * r .lines) (r .lineList)) out ≡ record { number = 0; count = length bytes; bytes = over bytes out }
+pub read-then-written : (bytes kindList lineList out : List ℕ) → Bytes bytes → length bytes ≤ length out → let r = reader bytes kindList lineList in r .number ≡ 0 → writer (take (r .vertices) (r .kindList)) (take (3 * r .lines) (r .lineList)) out ≡ record { number = 0; line = noLine; count = length bytes; bytes = over bytes out }
 read-then-written bytes kindList lineList out small long e = reader-writer bytes kindList lineList small (reads-exactly bytes kindList lineList .0 e) out long
 
 -- Lists that were written, read again, are the same lists.
-pub written-then-read : (kindList lineList out kinds lines : List ℕ) → length kindList ≤ length kinds → length lineList ≤ length lines → let w = writer kindList lineList out in w .number ≡ 0 → reader (take (w .count) (w .bytes)) kinds lines ≡ record { number = 0; vertices = length kindList; lines = length lineList / 3; kindList = over kindList kinds; lineList = over lineList lines }
+pub written-then-read : (kindList lineList out kinds lines : List ℕ) → length kindList ≤ length kinds → length lineList ≤ length lines → let w = writer kindList lineList out in w .number ≡ 0 → reader (take (w .count) (w .bytes)) kinds lines ≡ record { number = 0; line = noLine; vertices = length kindList; lines = length lineList / 3; kindList = over kindList kinds; lineList = over lineList lines }
 written-then-read kindList lineList out kinds lines h k e = writer-reader kindList lineList out (writes-exactly kindList lineList out .0 e) kinds lines h k
 
 -- The longest sheets are 187 bytes of a figure and 5,507 of a patch.

@@ -12,8 +12,8 @@ use lib.ListN.{length, take, drop}
 use lib.Seq.{take-at, drop-at}
 use Rattle.laws.specs.Lists.{all, upto}
 use Rattle.rules.specs.Sheet.{Line, Sheet, Bytes, vertexCount, lineCount, byteLength, held, written, kindsHeld, linesHeld, lineAt, field, bitAt}
-use Rattle.rules.specs.Checks.{Check, verdict, patchLimits, counted, lineChecks, sheetChecks, Accepted}
-use Rattle.rules.specs.Calls.{over, triples, linesOf, Read, readerChecks, readerRefusals, ReaderHanded, reader, Written, sheetOf, Writable, writerChecks, writerRefusals, WriterHanded, writer}
+use Rattle.rules.specs.Checks.{Verdict, noLine, lineless, Check, verdict, patchLimits, counted, lineChecks, sheetChecks, Accepted}
+use Rattle.rules.specs.Calls.{over, triples, linesOf, whenRead, unread, readerChecks, readerRefusals, ReaderHanded, reader, whenWritten, unwritten, sheetOf, Writable, writerChecks, writerRefusals, WriterHanded, writer}
 use Rattle.laws.proofs.Lists.{has-out, all-in, all-out, length-map-upto}
 use Rattle.rules.proofs.Accepted.{Numbered, numbered-cons, numbered-append, numbered-nil, tens, from-11, verdict-number, verdict-cons, verdict-append, lines-numbered, sheet-numbered, counted-iff, lines-iff, accepted-iff}
 use Rattle.rules.proofs.Fields.{bitAt-lt, word-lt}
@@ -50,57 +50,57 @@ reader-sheet-numbered = sheet-numbered patchLimits (tens 20 (has-out 21 _ refl) 
 
 module _ (bytes ks ls : List ℕ) where
   abbrev space : Check
-  space = (leb (vertexCount bytes) (length ks) && leb (3 * lineCount bytes) (length ls), 33)
+  space = (leb (vertexCount bytes) (length ks) && leb (3 * lineCount bytes) (length ls), lineless 33)
 
-  reader-iff : (verdict (readerChecks bytes ks ls) ≡ 0) ↔ ReaderHanded bytes ks ls
+  reader-iff : (verdict (readerChecks bytes ks ls) .number ≡ 0) ↔ ReaderHanded bytes ks ls
   unfolding verdict
   reader-iff = (λ v. let a = checks .0 v in let b = and-eq-true-iff _ _ .0 (verdict-cons space [] (omega arith) .0 (a .1) .0) in record { sheet = accepted-iff patchLimits bytes .0 (a .0); kinds = leb-true _ _ (b .0); lines = leb-true _ _ (b .1) }, λ H. checks .1 (accepted-iff patchLimits bytes .1 (H .sheet), rw (le-leb _ _ (H .kinds), le-leb _ _ (H .lines))))
     where
-      checks : (verdict (readerChecks bytes ks ls) ≡ 0) ↔ ((verdict (sheetChecks patchLimits bytes) ≡ 0) × (verdict (space ∷ []) ≡ 0))
+      checks : (verdict (readerChecks bytes ks ls) .number ≡ 0) ↔ ((verdict (sheetChecks patchLimits bytes) .number ≡ 0) × (verdict (space ∷ []) .number ≡ 0))
       checks = verdict-append {ns = readerRefusals} refl (sheetChecks patchLimits bytes) (space ∷ []) (reader-sheet-numbered bytes)
 
-  abbrev taken : Read
-  taken = record { number = 0; vertices = vertexCount bytes; lines = lineCount bytes; kindList = over (held bytes .kinds) ks; lineList = over (triples (held bytes .lines)) ls }
+  abbrev first : Verdict
+  first = verdict (readerChecks bytes ks ls)
 
-  pub reader-taken : ReaderHanded bytes ks ls → reader bytes ks ls ≡ taken
+  pub reader-taken : ReaderHanded bytes ks ls → reader bytes ks ls ≡ whenRead bytes ks ls
   unfolding reader
   reader-taken H = rw (reader, reader-iff .1 H)
 
   -- the reader reads what it is rightly handed, and refuses all else by one of its numbers, changing nothing
-  pub reader-either : (ReaderHanded bytes ks ls × (reader bytes ks ls ≡ taken)) ⊎ (List·Memᴰ (verdict (readerChecks bytes ks ls)) readerRefusals × (reader bytes ks ls ≡ record { number = verdict (readerChecks bytes ks ls); vertices = 0; lines = 0; kindList = ks; lineList = ls }))
+  pub reader-either : (ReaderHanded bytes ks ls × (reader bytes ks ls ≡ whenRead bytes ks ls)) ⊎ (List·Memᴰ (first .number) readerRefusals × (reader bytes ks ls ≡ unread first ks ls))
   unfolding reader
   reader-either = elim (verdict-number _ numbered) [ inl v ↦ inl (reader-iff .0 v, reader-taken (reader-iff .0 v)) | inr v ↦ inr (v, back _ refl (from-11 {ns = readerRefusals} refl v)) ]
     where
       numbered : Numbered readerRefusals (readerChecks bytes ks ls)
       numbered = numbered-append (sheetChecks patchLimits bytes) (reader-sheet-numbered bytes) (numbered-cons (has-out 33 _ refl) numbered-nil)
 
-      back : (k : ℕ) → verdict (readerChecks bytes ks ls) ≡ k → 10 < k → reader bytes ks ls ≡ record { number = k; vertices = 0; lines = 0; kindList = ks; lineList = ls }
+      back : (k : ℕ) → first .number ≡ k → 10 < k → reader bytes ks ls ≡ unread first ks ls
       back zero e h = absurd (omega arith)
       back (suc k) e h = rw (reader, e)
 
 -- the writer
 module _ (ks ls bytes : List ℕ) where
   abbrev room : Check
-  room = (leb (byteLength (length ks) (length ls / 3)) (length bytes), 33)
+  room = (leb (byteLength (length ks) (length ls / 3)) (length bytes), lineless 33)
 
   abbrev onLines : List Check
-  onLines = lineChecks 20 (length ks) none (linesOf ls)
+  onLines = lineChecks 20 (length ks) 0 none (linesOf ls)
 
   abbrev onKinds : List Check
-  onKinds = (all (λ k. leb k 63) ks, 35) ∷ (onLines ++ room ∷ [])
+  onKinds = (all (λ k. leb k 63) ks, lineless 35) ∷ (onLines ++ room ∷ [])
 
-  writer-iff : (verdict (writerChecks ks ls bytes) ≡ 0) ↔ WriterHanded ks ls bytes
+  writer-iff : (verdict (writerChecks ks ls bytes) .number ≡ 0) ↔ WriterHanded ks ls bytes
   unfolding verdict
   writer-iff = (there, λ H. rw (eq-eqb _ _ (H .threes), counted-iff patchLimits (length ks) (length ls / 3) .1 (H .sheet .vertex, H .sheet .vertices, rw length-linesOf at (H .sheet .lines)), all-in (λ k. leb k 63) ks (λ k m. le-leb k 63 (H .sheet .kinds k m))) (checks .1 (lines-iff 20 (length ks) (linesOf ls) .1 (H .sheet .drawn), rw (le-leb _ _ (H .space)))))
     where
-      checks : (verdict (onLines ++ room ∷ []) ≡ 0) ↔ ((verdict onLines ≡ 0) × (verdict (room ∷ []) ≡ 0))
-      checks = verdict-append {ns = writerRefusals} refl onLines (room ∷ []) (lines-numbered 20 (length ks) (has-out 24 _ refl) (has-out 25 _ refl) none (linesOf ls))
+      checks : (verdict (onLines ++ room ∷ []) .number ≡ 0) ↔ ((verdict onLines .number ≡ 0) × (verdict (room ∷ []) .number ≡ 0))
+      checks = verdict-append {ns = writerRefusals} refl onLines (room ∷ []) (lines-numbered 20 (length ks) (has-out 24 _ refl) (has-out 25 _ refl) 0 none (linesOf ls))
 
-      there : verdict (writerChecks ks ls bytes) ≡ 0 → WriterHanded ks ls bytes
+      there : verdict (writerChecks ks ls bytes) .number ≡ 0 → WriterHanded ks ls bytes
       there v =
-          let a = verdict-cons (eqb (length ls % 3) 0, 34) ((counted patchLimits (length ks) (length ls / 3), 22) ∷ onKinds) (omega arith) .0 v in
-          let b = verdict-cons (counted patchLimits (length ks) (length ls / 3), 22) onKinds (omega arith) .0 (a .1) in
-          let c = verdict-cons (all (λ k. leb k 63) ks, 35) (onLines ++ room ∷ []) (omega arith) .0 (b .1) in
+          let a = verdict-cons (eqb (length ls % 3) 0, lineless 34) ((counted patchLimits (length ks) (length ls / 3), lineless 22) ∷ onKinds) (omega arith) .0 v in
+          let b = verdict-cons (counted patchLimits (length ks) (length ls / 3), lineless 22) onKinds (omega arith) .0 (a .1) in
+          let c = verdict-cons (all (λ k. leb k 63) ks, lineless 35) (onLines ++ room ∷ []) (omega arith) .0 (b .1) in
           let d = checks .0 (c .1) in
           let t = counted-iff patchLimits (length ks) (length ls / 3) .0 (b .0) in
           record {
@@ -109,22 +109,22 @@ module _ (ks ls bytes : List ℕ) where
             space = leb-true _ _ (verdict-cons room [] (omega arith) .0 (d .1) .0);
           }
 
-  abbrev done : Written
-  done = record { number = 0; count = byteLength (length ks) (length ls / 3); bytes = over (written (sheetOf ks ls)) bytes }
+  abbrev fails : Verdict
+  fails = verdict (writerChecks ks ls bytes)
 
-  pub writer-taken : WriterHanded ks ls bytes → writer ks ls bytes ≡ done
+  pub writer-taken : WriterHanded ks ls bytes → writer ks ls bytes ≡ whenWritten ks ls bytes
   unfolding writer
   writer-taken H = rw (writer, writer-iff .1 H)
 
   -- the writer writes what it is rightly handed, and refuses all else by one of its numbers, changing nothing
-  pub writer-either : (WriterHanded ks ls bytes × (writer ks ls bytes ≡ done)) ⊎ (List·Memᴰ (verdict (writerChecks ks ls bytes)) writerRefusals × (writer ks ls bytes ≡ record { number = verdict (writerChecks ks ls bytes); count = 0; bytes = bytes }))
+  pub writer-either : (WriterHanded ks ls bytes × (writer ks ls bytes ≡ whenWritten ks ls bytes)) ⊎ (List·Memᴰ (fails .number) writerRefusals × (writer ks ls bytes ≡ unwritten fails bytes))
   unfolding writer
   writer-either = elim (verdict-number _ numbered) [ inl v ↦ inl (writer-iff .0 v, writer-taken (writer-iff .0 v)) | inr v ↦ inr (v, back _ refl (from-11 {ns = writerRefusals} refl v)) ]
     where
       numbered : Numbered writerRefusals (writerChecks ks ls bytes)
-      numbered = numbered-cons (has-out 34 _ refl) (numbered-cons (has-out 22 _ refl) (numbered-cons (has-out 35 _ refl) (numbered-append onLines (lines-numbered 20 (length ks) (has-out 24 _ refl) (has-out 25 _ refl) none (linesOf ls)) (numbered-cons (has-out 33 _ refl) numbered-nil))))
+      numbered = numbered-cons (has-out 34 _ refl) (numbered-cons (has-out 22 _ refl) (numbered-cons (has-out 35 _ refl) (numbered-append onLines (lines-numbered 20 (length ks) (has-out 24 _ refl) (has-out 25 _ refl) 0 none (linesOf ls)) (numbered-cons (has-out 33 _ refl) numbered-nil))))
 
-      back : (k : ℕ) → verdict (writerChecks ks ls bytes) ≡ k → 10 < k → writer ks ls bytes ≡ record { number = k; count = 0; bytes = bytes }
+      back : (k : ℕ) → fails .number ≡ k → 10 < k → writer ks ls bytes ≡ unwritten fails bytes
       back zero e h = absurd (omega arith)
       back (suc k) e h = rw (writer, e)
 
@@ -137,9 +137,9 @@ held-writable bytes A =
     record { vertex = rw n (A .vertex); vertices = rw n (A .vertices); lines = rw m (A .lines); kinds = λ k i. let t = Memᴰ·of-map (λ k. field bytes (22 + 6 * k) 6) (upto (vertexCount bytes) 0) i in omega (arith, t .2, word-lt (bitAt bytes) (bitAt-lt bytes) (22 + 6 * t .0) 6); drawn = rw n (A .drawn) }
 
 -- a sheet read by the reader and written again by the writer is the same bytes
-pub reader-writer : (bytes ks ls : List ℕ) → Bytes bytes → ReaderHanded bytes ks ls → (out : List ℕ) → length bytes ≤ length out → let r = reader bytes ks ls in writer (take (r .vertices) (r .kindList)) (take (3 * r .lines) (r .lineList)) out ≡ record { number = 0; count = length bytes; bytes = over bytes out }
+pub reader-writer : (bytes ks ls : List ℕ) → Bytes bytes → ReaderHanded bytes ks ls → (out : List ℕ) → length bytes ≤ length out → let r = reader bytes ks ls in writer (take (r .vertices) (r .kindList)) (take (3 * r .lines) (r .lineList)) out ≡ record { number = 0; line = noLine; count = length bytes; bytes = over bytes out }
 unfolding kindsHeld linesHeld
-reader-writer bytes ks ls small H out h = rw (reader-taken bytes ks ls H, take-at (held bytes .kinds) (drop (length (held bytes .kinds)) ks) (vertexCount bytes) n, take-at (triples (held bytes .lines)) (drop (length (triples (held bytes .lines))) ls) (3 * lineCount bytes) m) (writer-taken (held bytes .kinds) (triples (held bytes .lines)) out (record { threes = omega (arith, m); sheet = rw lines-triples (held-writable bytes (H .sheet)); space = omega (arith, long) }) ∙ (λ i. record { number = 0; count = long i; bytes = over (same i) out }))
+reader-writer bytes ks ls small H out h = rw (reader-taken bytes ks ls H, take-at (held bytes .kinds) (drop (length (held bytes .kinds)) ks) (vertexCount bytes) n, take-at (triples (held bytes .lines)) (drop (length (triples (held bytes .lines))) ls) (3 * lineCount bytes) m) (writer-taken (held bytes .kinds) (triples (held bytes .lines)) out (record { threes = omega (arith, m); sheet = rw lines-triples (held-writable bytes (H .sheet)); space = omega (arith, long) }) ∙ (λ i. record { number = 0; line = noLine; count = long i; bytes = over (same i) out }))
   where
     n : length (held bytes .kinds) ≡ vertexCount bytes
     n = length-map-upto _ (vertexCount bytes) 0
@@ -154,8 +154,8 @@ reader-writer bytes ks ls small H out h = rw (reader-taken bytes ks ls H, take-a
     same = rw lines-triples (read-written patchLimits bytes small (H .sheet))
 
 -- lists that the writer accepts, written by it and read again by the reader, are the same lists
-pub writer-reader : (ks ls out : List ℕ) → WriterHanded ks ls out → (kl ll : List ℕ) → length ks ≤ length kl → length ls ≤ length ll → let w = writer ks ls out in reader (take (w .count) (w .bytes)) kl ll ≡ record { number = 0; vertices = length ks; lines = length ls / 3; kindList = over ks kl; lineList = over ls ll }
-writer-reader ks ls out H kl ll h k = rw (writer-taken ks ls out H, ← length-linesOf, take-at (written s) (drop (length (written s)) out) (byteLength (length ks) (length (linesOf ls))) (written-long s (H .sheet))) (reader-taken (written s) kl ll (record { sheet = written-accepted s (H .sheet); kinds = rw (c .0) h; lines = rw (c .1, length-linesOf) (omega arith) }) ∙ (λ i. record { number = 0; vertices = c .0 i; lines = c .1 i; kindList = over (same i .kinds) kl; lineList = over (threes i) ll }))
+pub writer-reader : (ks ls out : List ℕ) → WriterHanded ks ls out → (kl ll : List ℕ) → length ks ≤ length kl → length ls ≤ length ll → let w = writer ks ls out in reader (take (w .count) (w .bytes)) kl ll ≡ record { number = 0; line = noLine; vertices = length ks; lines = length ls / 3; kindList = over ks kl; lineList = over ls ll }
+writer-reader ks ls out H kl ll h k = rw (writer-taken ks ls out H, ← length-linesOf, take-at (written s) (drop (length (written s)) out) (byteLength (length ks) (length (linesOf ls))) (written-long s (H .sheet))) (reader-taken (written s) kl ll (record { sheet = written-accepted s (H .sheet); kinds = rw (c .0) h; lines = rw (c .1, length-linesOf) (omega arith) }) ∙ (λ i. record { number = 0; line = noLine; vertices = c .0 i; lines = c .1 i; kindList = over (same i .kinds) kl; lineList = over (threes i) ll }))
   where
     s : Sheet
     s = sheetOf ks ls

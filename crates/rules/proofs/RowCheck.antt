@@ -11,7 +11,7 @@ use lib.Dec.{ltb}
 use lib.ListN.{length, getD, take, drop}
 use lib.Seq.{take-take, drop-drop, length-take-le}
 use Rattle.laws.proofs.Lists.{has-out, all-out, getD-in, ordered-getD}
-use Rattle.rules.specs.Checks.{verdict, figureLimits, patchLimits, sheetChecks}
+use Rattle.rules.specs.Checks.{Verdict, lineless, verdict, figureLimits, patchLimits, sheetChecks}
 use Rattle.rules.specs.Place.{Figure, Patch, Place}
 use Rattle.rules.specs.Calls.{figureOf, patchOf, figureChecks, searchRefusals, Handed, Searched, Taken, search, rowsIn, found}
 use Rattle.rules.specs.RowCheck.{rowAt, Good, Repeats, Reached, RowsTested, all-good, not-a-place, repeated, rowChecks, rowCount, RowsChecked, refused, tested, rowRefusals}
@@ -61,18 +61,18 @@ module _ (figure patch rows : List ℕ) where
   abbrev P : Patch
   P = patchOf patch
 
-  abbrev first : ℕ
+  abbrev first : Verdict
   first = verdict (rowChecks figure patch rows)
 
   abbrev count : ℕ
   count = rowCount figure rows
 
   -- two answers to the same figure, patch and rows are one
-  pub one-answer : {k i k′ i′ : ℕ} → RowsChecked figure patch rows k i → RowsChecked figure patch rows k′ i′ → (k ≡ k′) × (i ≡ i′)
+  pub one-answer : {v v′ : Verdict} {i i′ : ℕ} → RowsChecked figure patch rows v i → RowsChecked figure patch rows v′ i′ → (v ≡ v′) × (i ≡ i′)
   one-answer (refused a b c) (refused a′ b′ c′) = (b ∙ sym b′, c ∙ sym c′)
-  one-answer (refused a b c) (tested v t) = absurd (a (b ∙ v))
-  one-answer (tested v t) (refused a b c) = absurd (a (b ∙ v))
-  one-answer (tested v t) (tested v′ t′) = one-test F P rows t t′
+  one-answer (refused a b c) (tested p l t) = absurd (a (ap (λ v. v .number) b ∙ p))
+  one-answer (tested p l t) (refused a b c) = absurd (a (ap (λ v. v .number) b ∙ p))
+  one-answer (tested p l t) (tested p′ l′ t′) = let o = one-test F P rows t t′ in (λ i. record { number = o .0 i; line = (l ∙ sym l′) i }, o .1)
 
   -- the checks before the rows' have these numbers, and none has 43 or 44
   checks-numbered : Numbered beforeRows (rowChecks figure patch rows)
@@ -83,69 +83,73 @@ module _ (figure patch rows : List ℕ) where
       (numbered-append (sheetChecks figureLimits figure) (sheet-numbered figureLimits (tens 10 (has-out 11 _ refl) (has-out 12 _ refl) (has-out 13 _ refl) (has-out 14 _ refl) (has-out 15 _ refl)) figure) (numbered-cons (has-out 16 _ refl) numbered-nil))
       (numbered-append (sheetChecks patchLimits patch) (sheet-numbered patchLimits (tens 20 (has-out 21 _ refl) (has-out 22 _ refl) (has-out 23 _ refl) (has-out 24 _ refl) (has-out 25 _ refl)) patch) (numbered-cons (has-out 42 _ refl) numbered-nil))
 
-  checks-below : first < 43
+  checks-below : first .number < 43
   checks-below = elim (verdict-number _ checks-numbered) [ inl e ↦ omega arith | inr m ↦ ltb-true _ 43 (all-out (λ k. ltb k 43) m refl) ]
 
-  module _ {k i : ℕ} (answer : RowsChecked figure patch rows k i) where
+  -- two answers that are one have the same number
+  by-number : {v w : Verdict} {i j : ℕ} → (v ≡ w) × (i ≡ j) → (v .number ≡ w .number) × (i ≡ j)
+  by-number h = (ap (λ x. x .number) (h .0), h .1)
+
+  module _ {v : Verdict} {i : ℕ} (answer : RowsChecked figure patch rows v i) where
     -- accepted exactly if the checks before the rows' pass, every row is a place and no two rows are equal
-    pub rows-accepted-exactly : (k ≡ 0) ↔ ((first ≡ 0) × Good F P rows count)
-    rows-accepted-exactly = (there answer, λ g. one-answer {k′ = 0} {i′ = 0} answer (tested (g .0) (all-good refl refl (g .1))) .0)
+    pub rows-accepted-exactly : (v .number ≡ 0) ↔ ((first .number ≡ 0) × Good F P rows count)
+    rows-accepted-exactly = (there answer, λ g. ap (λ w. w .number) (one-answer {v′ = lineless 0} {i′ = 0} answer (tested (g .0) refl (all-good refl refl (g .1))) .0))
       where
-        there : RowsChecked figure patch rows k i → k ≡ 0 → (first ≡ 0) × Good F P rows count
+        there : RowsChecked figure patch rows v i → v .number ≡ 0 → (first .number ≡ 0) × Good F P rows count
         there (refused a b c) z = absurd (a z)
-        there (tested v (all-good e r G)) z = (v, G)
-        there (tested v (not-a-place e R un)) z = absurd (omega arith)
-        there (tested v (repeated e R p s)) z = absurd (omega arith)
+        there (tested p l (all-good e r G)) z = (p, G)
+        there (tested p l (not-a-place e R un)) z = absurd (omega arith)
+        there (tested p l (repeated e R q s)) z = absurd (omega arith)
 
     -- 43 and row j exactly if row j is there, every row before it is good, and it is not a place
-    pub not-a-place-exactly : (j : ℕ) → ((k ≡ 43) × (i ≡ j)) ↔ ((first ≡ 0) × Reached F P rows count j × (Place F P (rowAt (F .graph .size) rows j) → ⊥))
-    not-a-place-exactly j = (λ h. there answer (h .0) (h .1), λ r. one-answer {k′ = 43} {i′ = j} answer (tested (r .0) (not-a-place refl (r .1) (r .2))))
+    pub not-a-place-exactly : (j : ℕ) → ((v .number ≡ 43) × (i ≡ j)) ↔ ((first .number ≡ 0) × Reached F P rows count j × (Place F P (rowAt (F .graph .size) rows j) → ⊥))
+    not-a-place-exactly j = (λ h. there answer (h .0) (h .1), λ r. by-number (one-answer {v′ = lineless 43} {i′ = j} answer (tested (r .0) refl (not-a-place refl (r .1) (r .2)))))
       where
-        there : RowsChecked figure patch rows k i → k ≡ 43 → i ≡ j → (first ≡ 0) × Reached F P rows count j × (Place F P (rowAt (F .graph .size) rows j) → ⊥)
-        there (refused a b c) e s = absurd (omega (arith, checks-below))
-        there (tested v (all-good z r G)) e s = absurd (omega arith)
-        there (tested v (not-a-place q R un)) e s = subst (λ m. (first ≡ 0) × Reached F P rows count m × (Place F P (rowAt (F .graph .size) rows m) → ⊥)) s (v, R, un)
-        there (tested v (repeated q R p r)) e s = absurd (omega arith)
+        there : RowsChecked figure patch rows v i → v .number ≡ 43 → i ≡ j → (first .number ≡ 0) × Reached F P rows count j × (Place F P (rowAt (F .graph .size) rows j) → ⊥)
+        there (refused a b c) e s = absurd (omega (arith, checks-below, ap (λ x. x .number) b))
+        there (tested p l (all-good z r G)) e s = absurd (omega arith)
+        there (tested p l (not-a-place q R un)) e s = subst (λ m. (first .number ≡ 0) × Reached F P rows count m × (Place F P (rowAt (F .graph .size) rows m) → ⊥)) s (p, R, un)
+        there (tested p l (repeated q R s′ r)) e s = absurd (omega arith)
 
     -- 44 and row j exactly if row j is there, every row before it is good, and it is a place that equals an earlier row
-    pub repeated-exactly : (j : ℕ) → ((k ≡ 44) × (i ≡ j)) ↔ ((first ≡ 0) × Reached F P rows count j × Place F P (rowAt (F .graph .size) rows j) × Repeats (F .graph .size) rows j)
-    repeated-exactly j = (λ h. there answer (h .0) (h .1), λ r. one-answer {k′ = 44} {i′ = j} answer (tested (r .0) (repeated refl (r .1) (r .2) (r .3))))
+    pub repeated-exactly : (j : ℕ) → ((v .number ≡ 44) × (i ≡ j)) ↔ ((first .number ≡ 0) × Reached F P rows count j × Place F P (rowAt (F .graph .size) rows j) × Repeats (F .graph .size) rows j)
+    repeated-exactly j = (λ h. there answer (h .0) (h .1), λ r. by-number (one-answer {v′ = lineless 44} {i′ = j} answer (tested (r .0) refl (repeated refl (r .1) (r .2) (r .3)))))
       where
-        there : RowsChecked figure patch rows k i → k ≡ 44 → i ≡ j → (first ≡ 0) × Reached F P rows count j × Place F P (rowAt (F .graph .size) rows j) × Repeats (F .graph .size) rows j
-        there (refused a b c) e s = absurd (omega (arith, checks-below))
-        there (tested v (all-good z r G)) e s = absurd (omega arith)
-        there (tested v (not-a-place q R un)) e s = absurd (omega arith)
-        there (tested v (repeated q R p r)) e s = subst (λ m. (first ≡ 0) × Reached F P rows count m × Place F P (rowAt (F .graph .size) rows m) × Repeats (F .graph .size) rows m) s (v, R, p, r)
+        there : RowsChecked figure patch rows v i → v .number ≡ 44 → i ≡ j → (first .number ≡ 0) × Reached F P rows count j × Place F P (rowAt (F .graph .size) rows j) × Repeats (F .graph .size) rows j
+        there (refused a b c) e s = absurd (omega (arith, checks-below, ap (λ x. x .number) b))
+        there (tested p l (all-good z r G)) e s = absurd (omega arith)
+        there (tested p l (not-a-place q R un)) e s = absurd (omega arith)
+        there (tested p l (repeated q R s′ r)) e s = subst (λ m. (first .number ≡ 0) × Reached F P rows count m × Place F P (rowAt (F .graph .size) rows m) × Repeats (F .graph .size) rows m) s (p, R, s′, r)
 
-    -- any other number is that of the first check to fail before the rows
-    pub refused-exactly : (m : ℕ) → m ≢ 0 → m < 43 → (k ≡ m) ↔ (first ≡ m)
-    refused-exactly m some small = (there answer, λ e. one-answer {k′ = m} {i′ = 0} answer (refused some (sym e) refl) .0)
+    -- any other number, and the line beside it, are what the first check to fail before the rows answers
+    pub refused-exactly : (w : Verdict) → w .number ≢ 0 → w .number < 43 → (v ≡ w) ↔ (first ≡ w)
+    refused-exactly w some small = (λ e. there answer e (ap (λ x. x .number) e), λ e. one-answer {v′ = w} {i′ = 0} answer (refused some (sym e) refl) .0)
       where
-        there : RowsChecked figure patch rows k i → k ≡ m → first ≡ m
-        there (refused a b c) e = sym b ∙ e
-        there (tested v (all-good z r G)) e = absurd (some (sym e ∙ z))
-        there (tested v (not-a-place q R un)) e = absurd (omega arith)
-        there (tested v (repeated q R p r)) e = absurd (omega arith)
+        there : RowsChecked figure patch rows v i → v ≡ w → v .number ≡ w .number → first ≡ w
+        there (refused a b c) e n = sym b ∙ e
+        there (tested p l (all-good z r G)) e n = absurd (some (sym n ∙ z))
+        there (tested p l (not-a-place q R un)) e n = absurd (omega arith)
+        there (tested p l (repeated q R s′ r)) e n = absurd (omega arith)
 
     -- accepted, or refused by one of the numbers
-    pub rows-accepted-or-refused : (k ≡ 0) ⊎ List·Memᴰ k rowRefusals
+    pub rows-accepted-or-refused : (v .number ≡ 0) ⊎ List·Memᴰ (v .number) rowRefusals
     rows-accepted-or-refused = go answer
       where
-        go : RowsChecked figure patch rows k i → (k ≡ 0) ⊎ List·Memᴰ k rowRefusals
-        go (refused a b c) = elim (verdict-number _ checks-numbered) [ inl v ↦ inl (b ∙ v) | inr m ↦ inr (Memᴰ·cast b (Memᴰ·append-left (43 ∷ 44 ∷ []) m)) ]
-        go (tested v (all-good z r G)) = inl z
-        go (tested v (not-a-place q R un)) = inr (Memᴰ·cast q (has-out 43 rowRefusals refl))
-        go (tested v (repeated q R p r)) = inr (Memᴰ·cast q (has-out 44 rowRefusals refl))
+        go : RowsChecked figure patch rows v i → (v .number ≡ 0) ⊎ List·Memᴰ (v .number) rowRefusals
+        go (refused a b c) = let e = ap (λ x. x .number) b in elim (verdict-number _ checks-numbered) [ inl z ↦ inl (e ∙ z) | inr m ↦ inr (Memᴰ·cast e (Memᴰ·append-left (43 ∷ 44 ∷ []) m)) ]
+        go (tested p l (all-good z r G)) = inl z
+        go (tested p l (not-a-place q R un)) = inr (Memᴰ·cast q (has-out 43 rowRefusals refl))
+        go (tested p l (repeated q R s′ r)) = inr (Memᴰ·cast q (has-out 44 rowRefusals refl))
 
     -- in every answer but 43 and 44 the row is 0
-    pub row-zero : k ≢ 43 → k ≢ 44 → i ≡ 0
+    pub row-zero : v .number ≢ 43 → v .number ≢ 44 → i ≡ 0
     row-zero = go answer
       where
-        go : RowsChecked figure patch rows k i → k ≢ 43 → k ≢ 44 → i ≡ 0
+        go : RowsChecked figure patch rows v i → v .number ≢ 43 → v .number ≢ 44 → i ≡ 0
         go (refused a b c) f g = c
-        go (tested v (all-good z r G)) f g = r
-        go (tested v (not-a-place q R un)) f g = absurd (f q)
-        go (tested v (repeated q R p r)) f g = absurd (g q)
+        go (tested p l (all-good z r G)) f g = r
+        go (tested p l (not-a-place q R un)) f g = absurd (f q)
+        go (tested p l (repeated q R s′ r)) f g = absurd (g q)
 
 -- a row of a part of the list is a row of the list
 within : (n a b : ℕ) (l : List ℕ) → a + n ≤ b → take n (drop a (take b l)) ≡ take n (drop a l)
@@ -170,7 +174,7 @@ rows-long n zero l = refl
 rows-long n (suc k) l = ap suc (rows-long n k (drop n l))
 
 -- the checks before the rows' pass where a search was handed its sheets and the list is a whole number of rows
-passes : (figure patch memory rows : List ℕ) → Handed figure patch memory → length rows % figureOf figure .graph .size ≡ 0 → verdict (rowChecks figure patch rows) ≡ 0
+passes : (figure patch memory rows : List ℕ) → Handed figure patch memory → length rows % figureOf figure .graph .size ≡ 0 → verdict (rowChecks figure patch rows) .number ≡ 0
 unfolding rowChecks verdict
 passes figure patch memory rows H whole =
     verdict-append {ns = searchRefusals} refl (figureChecks figure) _ (figure-numbered figure) .1 (
@@ -179,8 +183,8 @@ passes figure patch memory rows H whole =
     )
 
 -- every list that the search returns is accepted: of any search that was taken, the rows' part of the list
-pub own-list-accepted : (figure patch memory list : List ℕ) (allowance : ℕ) → let s = search figure patch memory list allowance in Taken s → RowsChecked figure patch (take (s .rows * figureOf figure .graph .size) (s .list)) 0 0
-own-list-accepted figure patch memory list allowance t = tested (passes figure patch memory rows H (rw long (mul-mod-left r n))) (all-good refl refl (record { places = places; different = different }))
+pub own-list-accepted : (figure patch memory list : List ℕ) (allowance : ℕ) → let s = search figure patch memory list allowance in Taken s → RowsChecked figure patch (take (s .rows * figureOf figure .graph .size) (s .list)) (lineless 0) 0
+own-list-accepted figure patch memory list allowance t = tested (passes figure patch memory rows H (rw long (mul-mod-left r n))) refl (all-good refl refl (record { places = places; different = different }))
   where
     s : Searched
     s = search figure patch memory list allowance

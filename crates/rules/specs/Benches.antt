@@ -1,4 +1,4 @@
--- Document 01, "Benches": one table of calls on bytes, one theorem. a to i are starred there, j and k are run there too, l to q are our own, p and q for document 02, Wish 2.
+-- Document 01, "Benches": one table of calls on bytes, one theorem. a to i are starred there, j and k are run there too, l to r are our own, p and q for document 02, Wish 2, r for Wish 6.
 use Prim.Native.Nat.{ℕ}
 use mathlib.Core.Path.{_≡_, refl}
 use mathlib.Core.List.{List, [], _∷_, _++_, map, flatten}
@@ -25,6 +25,12 @@ unfoldable pub run : Call → List ℕ
 run (write ks ls) = let w = writer ks ls (replicate 8 4) in w .number ∷ w .count ∷ w .bytes
 run (read b) = let r = reader b (replicate 3 4) (replicate 4 4) in r .number ∷ r .vertices ∷ r .lines ∷ (r .kindList ++ r .lineList)
 run (find f p k n a) = let s = search f p (replicate k 4) (replicate n 4) a in s .number ∷ s .rows ∷ s .tries ∷ s .list
+
+-- the number that comes back, and the line beside it
+unfoldable pub numberAndLine : Call → ℕ × ℕ
+numberAndLine (write ks ls) = let w = writer ks ls (replicate 8 4) in (w .number, w .line)
+numberAndLine (read b) = let r = reader b (replicate 3 4) (replicate 4 4) in (r .number, r .line)
+numberAndLine (find f p k n a) = let s = search f p (replicate k 4) (replicate n 4) a in (s .number, s .line)
 
 -- the sheet of kinds and of cables between pairs of vertices
 abbrev pub S : List ℕ → List (ℕ × ℕ) → List ℕ
@@ -202,7 +208,31 @@ q =
 abbrev pub benches : List (Call × List ℕ)
 benches = a ++ (b ++ (c ++ (d ++ (e ++ (f ++ (g ++ (h ++ (i ++ (j ++ (k ++ (l ++ (m ++ (n ++ (o ++ (p ++ q)))))))))))))))
 
+-- our bench r: the line that fails is named, not the first, nor a later one that fails too; with 14 and 15 it is the figure's, with 24 and 25 the patch's, or of what is read or written; with any other number it is 65,535
+abbrev pub r : List (Call × (ℕ × ℕ))
+r =
+    (read (S (1 ∷ 2 ∷ []) ((1, 1) ∷ [])), (24, 0))
+    ∷ (read (S (1 ∷ 2 ∷ 2 ∷ []) ((0, 1) ∷ (0, 2) ∷ (0, 2) ∷ (1, 1) ∷ [])), (25, 2))
+    ∷ (read (S (1 ∷ 2 ∷ []) ((0, 1) ∷ (0, 0) ∷ [])), (24, 1))
+    ∷ (write (1 ∷ 2 ∷ []) (1 ∷ 0 ∷ 1 ∷ 3 ∷ 0 ∷ 1 ∷ []), (24, 1))
+    ∷ (write (1 ∷ 2 ∷ []) (1 ∷ 0 ∷ 1 ∷ 1 ∷ 0 ∷ 1 ∷ []), (25, 1))
+    ∷ (find (S (1 ∷ 2 ∷ []) ((0, 1) ∷ (0, 2) ∷ [])) cP W 2 10, (14, 1))
+    ∷ (find (S (1 ∷ 2 ∷ []) ((0, 1) ∷ (0, 1) ∷ [])) cP W 2 10, (15, 1))
+    ∷ (find cF (S (1 ∷ 2 ∷ []) ((1, 0) ∷ (0, 1) ∷ [])) W 2 10, (24, 0))
+    ∷ (find cF (S (1 ∷ 2 ∷ 2 ∷ []) ((0, 2) ∷ (0, 1) ∷ [])) W 2 10, (25, 1))
+    ∷ (read cF, (0, 65_535))
+    ∷ (read bT, (23, 65_535))
+    ∷ (write (5 ∷ []) [], (0, 65_535))
+    ∷ (write (1 ∷ 2 ∷ []) (1 ∷ 0 ∷ []), (34, 65_535))
+    ∷ (find cF cP W 6 10, (0, 65_535))
+    ∷ (find cF cP W 2 10, (1, 65_535))
+    ∷ (find cF cP W 6 2, (2, 65_535))
+    ∷ (find bT cP W 2 10, (13, 65_535))
+    ∷ (find (S (5 ∷ 5 ∷ []) []) jP W 1 10, (16, 65_535))
+    ∷ (find cF cP 22_527 1 10, (31, 65_535))
+    ∷ []
+
 -- every bench gives what is said, and bench h has 8 partial placements
-pub all-benches : (map (λ b. run (b .0)) benches ≡ map (λ b. b .1) benches) × (partials (figureOf hF) (patchOf hP) ≡ 8)
-unfolding run reader writer search triples linesOf figureOf patchOf connected verdict flatten packed layout bits word bitAt kindsHeld lineAt linesHeld kindBits lineBits plugged dead triesOf planOf cut tried level firstSet attempt opening siblings skips joinSet lastSet takeable image placed user rowOf after inMask kindFits atFirst firstSets root rootFrom order orderFrom newcomers before parents union ancestors ancestorsFrom supported pass refined partialsOf partialsUpTo placings isPartial lineKept
-all-benches = (refl, refl)
+pub all-benches : (map (λ b. run (b .0)) benches ≡ map (λ b. b .1) benches) × (map (λ b. numberAndLine (b .0)) r ≡ map (λ b. b .1) r) × (partials (figureOf hF) (patchOf hP) ≡ 8)
+unfolding run numberAndLine reader writer search triples linesOf figureOf patchOf connected verdict flatten packed layout bits word bitAt kindsHeld lineAt linesHeld kindBits lineBits plugged dead triesOf planOf cut tried level firstSet attempt opening siblings skips joinSet lastSet takeable image placed user rowOf after inMask kindFits atFirst firstSets root rootFrom order orderFrom newcomers before parents union ancestors ancestorsFrom supported pass refined partialsOf partialsUpTo placings isPartial lineKept
+all-benches = (refl, refl, refl)

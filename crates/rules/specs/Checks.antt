@@ -1,26 +1,44 @@
 -- Document 01, "Numbers that come back": the checks of a sheet with their numbers, in their order. Assumes nothing: these are definitions.
-use Prim.Native.Nat.{ℕ, _+_, _*_, _-_, _≤_, _<_}
+use Prim.Native.Nat.{ℕ, zero, suc, _+_, _*_, _-_, _≤_, _<_}
 use mathlib.Core.Path.{_≡_}
+use mathlib.Core.Logic.{_≢_, _⊎_}
 use mathlib.Core.List.{List, [], _∷_, List·Memᴰ}
 use mathlib.Core.Bool.{Bool, true, false, _&&_, _||_, cond}
 use mathlib.Core.Option.{Option, some, none}
 use lib.Dec.{eqb, ltb, leb}
-use lib.ListN.{length}
+use lib.ListN.{length, take}
 use Rattle.laws.specs.Lists.{all, upto, Ordered}
 use Rattle.rules.specs.Sheet.{Line, normalled, bitAt, vertexCount, lineCount, bitLength, byteLength, held}
 
--- a check: whether it passes, and the number given where it is the first to fail
-abbrev pub Check : Type 0
-Check = Bool × ℕ
+-- what a check answers: a number, and the line that it is about, counted from 0 (document 02, Wish 6)
+pub record Verdict : Type 0 where
+  pub number : ℕ
+  pub line : ℕ
 
--- the number of the first check to fail, 0 where none does
-unfoldable pub verdict : List Check → ℕ
-verdict [] = 0
+-- what stands for the line in every answer that is about no line
+abbrev pub noLine : ℕ
+noLine = 65_535
+
+-- an answer that is about no line
+abbrev pub lineless : ℕ → Verdict
+lineless k = record { number = k; line = noLine }
+
+-- a check: whether it passes, and what is answered where it is the first to fail
+abbrev pub Check : Type 0
+Check = Bool × Verdict
+
+-- what the first check to fail answers, 0 and no line where none fails
+unfoldable pub verdict : List Check → Verdict
+verdict [] = lineless 0
 verdict (c ∷ cs) = cond (c .0) (verdict cs) (c .1)
+
+-- a call after its checks: what it does where all pass, or its refusal by what the first to fail answers
+abbrev pub checked : {R : Type 0} → Verdict → R → (Verdict → R) → R
+checked v taken refused = elim (v .number) [ zero ↦ taken | suc k ↦ refused v ]
 
 -- a check of a number fails after checks that all pass
 pub data FirstToFail (k : ℕ) : List Check → Type 0 where
-  fails : {c : Check} {cs : List Check} → c .0 ≡ false → c .1 ≡ k → FirstToFail k (c ∷ cs)
+  fails : {c : Check} {cs : List Check} → c .0 ≡ false → c .1 .number ≡ k → FirstToFail k (c ∷ cs)
   passes : {c : Check} {cs : List Check} → c .0 ≡ true → FirstToFail k cs → FirstToFail k (c ∷ cs)
 
 -- the most vertices and lines that a sheet may have, and the ten that its checks are numbered from
@@ -63,24 +81,35 @@ abbrev pub follows : Option Line → Line → Bool
 follows none l = true
 follows (some k) l = comesAfter k l
 
--- the checks of lines among n vertices, from the first, where `before` is the line before them
-abbrev pub lineChecks : ℕ → ℕ → Option Line → List Line → List Check
-lineChecks ten n before [] = []
-lineChecks ten n before (l ∷ ls) = (lineFits n l, ten + 4) ∷ (follows before l, ten + 5) ∷ lineChecks ten n (some l) ls
+-- the checks of lines among n vertices, each about its line, where the first of them is line j and `before` is the line before it
+abbrev pub lineChecks : (ten n j : ℕ) (before : Option Line) → List Line → List Check
+lineChecks ten n j before [] = []
+lineChecks ten n j before (l ∷ ls) = (lineFits n l, record { number = ten + 4; line = j }) ∷ (follows before l, record { number = ten + 5; line = j }) ∷ lineChecks ten n (suc j) (some l) ls
+
+-- line j of lines among n vertices is the offending one, the first whose check fails: a sheet may have the lines before it, and not those and it
+pub record Offending (n : ℕ) (ls : List Line) (j : ℕ) : Type 0 where
+  pub there : j < length ls
+  pub before : Drawable n (take j ls)
+  pub fails : Drawable n (take (suc j) ls) → ⊥
+
+-- what the line beside a number tells where a sheet's lines are checked: the offending one with ten + 4 and ten + 5, none with any other number
+pub data LineTold (ten n : ℕ) (ls : List Line) (number line : ℕ) : Type 0 where
+  offending : (number ≡ ten + 4) ⊎ (number ≡ ten + 5) → Offending n ls line → LineTold ten n ls number line
+  no-line : number ≢ ten + 4 → number ≢ ten + 5 → line ≡ noLine → LineTold ten n ls number line
 
 -- the checks of a sheet: under 3 bytes, counts, length, filling, lines
 abbrev pub sheetChecks : Limits → List ℕ → List Check
 sheetChecks L bytes =
     let n = vertexCount bytes in
     let m = lineCount bytes in
-    (leb 3 (length bytes), L .ten + 1)
-    ∷ (counted L n m, L .ten + 2)
-    ∷ (eqb (length bytes) (byteLength n m), L .ten + 1)
-    ∷ (cleared bytes, L .ten + 3)
-    ∷ lineChecks (L .ten) n none (held bytes .lines)
+    (leb 3 (length bytes), lineless (L .ten + 1))
+    ∷ (counted L n m, lineless (L .ten + 2))
+    ∷ (eqb (length bytes) (byteLength n m), lineless (L .ten + 1))
+    ∷ (cleared bytes, lineless (L .ten + 3))
+    ∷ lineChecks (L .ten) n 0 none (held bytes .lines)
 
--- what the check of a sheet answers: the number of the first check to fail, 0 where all pass
-unfoldable pub sheetVerdict : Limits → List ℕ → ℕ
+-- what the check of a sheet answers
+unfoldable pub sheetVerdict : Limits → List ℕ → Verdict
 sheetVerdict L bytes = verdict (sheetChecks L bytes)
 
 -- a sheet as its checks want it

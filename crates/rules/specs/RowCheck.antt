@@ -6,7 +6,7 @@ use mathlib.Core.List.{List, [], _∷_, _++_}
 use lib.Dec.{eqb}
 use lib.ListN.{length, take, drop}
 use Rattle.rules.specs.Place.{PatchVertex, Figure, Patch, Place}
-use Rattle.rules.specs.Checks.{Check, verdict, patchLimits, sheetChecks}
+use Rattle.rules.specs.Checks.{Verdict, noLine, lineless, Check, verdict, patchLimits, sheetChecks}
 use Rattle.rules.specs.Calls.{figureOf, patchOf, figureChecks}
 
 -- row i, counted from 0, of a list of rows of n entries each
@@ -38,16 +38,16 @@ pub data RowsTested (F : Figure) (P : Patch) (rows : List ℕ) (k number row : �
 
 -- the checks before the rows': the figure's, the patch's, then 42 where the list is not a whole number of rows
 unfoldable pub rowChecks : (figure patch rows : List ℕ) → List Check
-rowChecks figure patch rows = figureChecks figure ++ (sheetChecks patchLimits patch ++ (eqb (length rows % figureOf figure .graph .size) 0, 42) ∷ [])
+rowChecks figure patch rows = figureChecks figure ++ (sheetChecks patchLimits patch ++ (eqb (length rows % figureOf figure .graph .size) 0, lineless 42) ∷ [])
 
 -- how many rows a list has for a figure
 abbrev pub rowCount : (figure rows : List ℕ) → ℕ
 rowCount figure rows = length rows / figureOf figure .graph .size
 
--- what the row check answers: the number of the first check to fail before the rows, with row 0; else what the test of all its rows answers
-pub data RowsChecked (figure patch rows : List ℕ) (number row : ℕ) : Type 0 where
-  refused : number ≢ 0 → number ≡ verdict (rowChecks figure patch rows) → row ≡ 0 → RowsChecked figure patch rows number row
-  tested : verdict (rowChecks figure patch rows) ≡ 0 → RowsTested (figureOf figure) (patchOf patch) rows (rowCount figure rows) number row → RowsChecked figure patch rows number row
+-- what the row check answers: what the first check to fail before the rows answers, with row 0; else what the test of all its rows answers, with no line
+pub data RowsChecked (figure patch rows : List ℕ) (v : Verdict) (row : ℕ) : Type 0 where
+  refused : v .number ≢ 0 → v ≡ verdict (rowChecks figure patch rows) → row ≡ 0 → RowsChecked figure patch rows v row
+  tested : verdict (rowChecks figure patch rows) .number ≡ 0 → v .line ≡ noLine → RowsTested (figureOf figure) (patchOf patch) rows (rowCount figure rows) (v .number) row → RowsChecked figure patch rows v row
 
 -- the numbers by which the row check refuses
 abbrev pub rowRefusals : List ℕ
