@@ -8,12 +8,12 @@ use Rattle.exports.specs.declared.Written.{Written}
 
 -- what the search returned, with the list and the working memory afterwards
 abbrev pub asSearched : Found → (list memory : List ℕ) → calls.Searched
-asSearched r list memory = record { number = r .number; rows = r .rows; tries = r .tries; list = list; memory = memory }
+asSearched r list memory = record { number = r .number; line = r .line; rows = r .rows; tries = r .tries; list = list; memory = memory }
 
 -- what the reader returned, with the two lists afterwards
 abbrev pub asRead : Read → (kindList lineList : List ℕ) → calls.Read
-asRead r kindList lineList = record { number = r .number; vertices = r .vertices; lines = r .lines; kindList = kindList; lineList = lineList }
+asRead r kindList lineList = record { number = r .number; line = r .line; vertices = r .vertices; lines = r .lines; kindList = kindList; lineList = lineList }
 
 -- what the writer returned, with the bytes afterwards
 abbrev pub asWritten : Written → List ℕ → calls.Written
-asWritten r bytes = record { number = r .number; count = r .count; bytes = bytes }
+asWritten r bytes = record { number = r .number; line = r .line; count = r .count; bytes = bytes }

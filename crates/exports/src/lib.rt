@@ -9,33 +9,37 @@ use row_check::check_rows;
 use sheet_reader::read;
 use sheet_writer::write;
 
-// What the search returns: its number, the rows written and the tries spent.
+// What the search returns: its number, the line that the number is about or 65,535, the rows written and the tries spent.
 #[repr(C)]
 pub struct Found {
     pub number: u16,
+    pub line: u16,
     pub rows: usize,
     pub tries: u32,
 }
 
-// What the reader returns: its number and the counts n and m.
+// What the reader returns: its number, the line, and the counts n and m.
 #[repr(C)]
 pub struct Read {
     pub number: u16,
+    pub line: u16,
     pub vertices: u16,
     pub lines: u16,
 }
 
-// What the writer returns: its number and the count of bytes.
+// What the writer returns: its number, the line, and the count of bytes.
 #[repr(C)]
 pub struct Written {
     pub number: u16,
+    pub line: u16,
     pub count: usize,
 }
 
-// What the check of rows returns: its number, and the first bad row or 0.
+// What the check of rows returns: its number, the line, and the first bad row or 0.
 #[repr(C)]
 pub struct Checked {
     pub number: u16,
+    pub line: u16,
     pub row: usize,
 }
 
@@ -52,6 +56,7 @@ pub extern "C" fn gelquorist_find(
     let answer = find(figure, patch, memory, list, allowance);
     Found {
         number: answer.number,
+        line: answer.line,
         rows: answer.rows,
         tries: answer.tries,
     }
@@ -64,6 +69,7 @@ pub extern "C" fn gelquorist_read(sheet: &[u8], kinds: &mut [u16], lines: &mut [
     let answer = read(sheet, kinds, lines);
     Read {
         number: answer.number,
+        line: answer.line,
         vertices: answer.vertices,
         lines: answer.lines,
     }
@@ -76,17 +82,19 @@ pub extern "C" fn gelquorist_write(kinds: &[u16], lines: &[u16], bytes: &mut [u8
     let answer = write(kinds, lines, bytes);
     Written {
         number: answer.number,
+        line: answer.line,
         count: answer.count,
     }
 }
 
 #[no_mangle]
 pub extern "C" fn gelquorist_check_rows(figure: &[u8], patch: &[u8], rows: &[u16]) -> Checked
-    ensures { λ r. ⌜ RowsChecked (now (figure .entry)) (now (patch .entry)) (now (rows .entry)) (r .number) (r .row) ⌝ }
+    ensures { λ r. ⌜ RowsChecked (now (figure .entry)) (now (patch .entry)) (now (rows .entry)) (record { number = r .number; line = r .line }) (r .row) ⌝ }
 {
     let answer = check_rows(figure, patch, rows);
     Checked {
         number: answer.number,
+        line: answer.line,
         row: answer.row,
     }
 }

@@ -6,6 +6,7 @@ ghost use Rattle.rules.specs.Checks.{Accepted, figureLimits, verdict};
 ghost use Rattle.rules.specs.Place.{Figure, Patch};
 ghost use Rattle.rules.specs.Calls.{figureOf};
 ghost use Rattle.rules.specs.RowCheck.{rowChecks, rowCount, RowsTested, RowsChecked};
+ghost use Rattle.sheet.specs.Check.{verdictOf};
 ghost use Rattle.patch.specs.Tables.{Holds};
 ghost use Rattle.row_check.specs.Against.{Against};
 use crate::equal::repeats;
@@ -15,16 +16,25 @@ use crate::place::is_place;
 use figure::check_whole;
 use figure::load_figure;
 use patch::load;
+use sheet::check::Verdict;
 use sheet::check::check_patch;
+use sheet::check::lineless;
 use sheet::fields::counts;
 
 mod equal;
 mod place;
 
-// What comes back: the number, and the first bad row counted from 0, which is 0 in every other answer.
+// What comes back: the number, the line that it is about, and the first bad row counted from 0, which is 0 in every other answer.
 pub struct Checked {
     pub number: u16,
+    pub line: u16,
     pub row: usize,
+}
+
+// What the test of the rows answers: 0, or 43 or 44 with the first bad row.
+struct Tested {
+    number: u16,
+    row: usize,
 }
 
 // Each row in its turn: whether it is a place, then whether it equals an earlier row.
@@ -37,7 +47,7 @@ fn walk(
     m: usize,
     n: usize,
     rows: &[u16],
-) -> Checked
+) -> Tested
     requires { ⌜ ((F : Figure) × ((P : Patch) × Against F P (now tables) size (now kinds) (now first) (now second) m n)) ⌝ }
     ensures { λ r. ⌜ ((F : Figure) (P : Patch) → Against F P (now (tables .entry)) size (now (kinds .entry)) (now (first .entry)) (now (second .entry)) m n → RowsTested F P (now (rows .entry)) (length (now (rows .entry)) / n) (r .number) (r .row)) ⌝ }
 {
@@ -47,18 +57,18 @@ fn walk(
     while i < count {
         let row = row_of(rows, n, i);
         if !is_place(tables, size, kinds, first, second, m, row) {
-            return Checked { number: 43, row: i };
+            return Tested { number: 43, row: i };
         }
         if repeats(rows, n, i, &mut marks) {
-            return Checked { number: 44, row: i };
+            return Tested { number: 44, row: i };
         }
         i += 1;
     }
-    Checked { number: 0, row: 0 }
+    Tested { number: 0, row: 0 }
 }
 
 // The rows against a loaded patch of `size` vertices, for the figure of a checked sheet.
-fn test_rows(figure: &[u8], tables: &[u16], size: u16, rows: &[u16]) -> Checked
+fn test_rows(figure: &[u8], tables: &[u16], size: u16, rows: &[u16]) -> Tested
     requires { ⌜ Accepted figureLimits (now figure) × ((P : Patch) × Holds P (now tables) × (P .graph .size ≡ size)) ⌝ }
     ensures { λ r. ⌜ ((P : Patch) → Holds P (now (tables .entry)) → P .graph .size ≡ size → RowsTested (figureOf (now (figure .entry))) P (now (rows .entry)) (rowCount (now (figure .entry)) (now (rows .entry))) (r .number) (r .row)) ⌝ }
 {
@@ -70,34 +80,43 @@ fn test_rows(figure: &[u8], tables: &[u16], size: u16, rows: &[u16]) -> Checked
     walk(tables, size, &kinds, &first, &second, e.count, f.n, rows)
 }
 
-// The number of the checks before the rows': the figure's, the patch's, then 42.
-fn check_before(figure: &[u8], patch: &[u8], rows: &[u16]) -> u16
-    ensures { λ r. ⌜ r ≡ verdict (rowChecks (now (figure .entry)) (now (patch .entry)) (now (rows .entry))) ⌝ }
+// What the checks before the rows' answer: the figure's, the patch's, then 42.
+fn check_before(figure: &[u8], patch: &[u8], rows: &[u16]) -> Verdict
+    ensures { λ r. ⌜ verdictOf r ≡ verdict (rowChecks (now (figure .entry)) (now (patch .entry)) (now (rows .entry))) ⌝ }
 {
     let f = check_whole(figure);
     if f.number != 0 {
-        return f.number;
+        return f;
     }
     let p = check_patch(patch);
     if p.number != 0 {
-        return p.number;
+        return p;
     }
     let n = counts(figure).vertices as usize;
     if rows.len() % n != 0 {
-        return 42;
+        return lineless(42);
     }
-    0
+    lineless(0)
 }
 
 pub fn check_rows(figure: &[u8], patch: &[u8], rows: &[u16]) -> Checked
-    ensures { λ r. ⌜ RowsChecked (now (figure .entry)) (now (patch .entry)) (now (rows .entry)) (r .number) (r .row) ⌝ }
+    ensures { λ r. ⌜ RowsChecked (now (figure .entry)) (now (patch .entry)) (now (rows .entry)) (record { number = r .number; line = r .line }) (r .row) ⌝ }
 {
-    let number = check_before(figure, patch, rows);
-    if number != 0 {
-        return Checked { number, row: 0 };
+    let verdict = check_before(figure, patch, rows);
+    if verdict.number != 0 {
+        return Checked {
+            number: verdict.number,
+            line: verdict.line,
+            row: 0,
+        };
     }
     let mut tables = [0u16; 5122];
     load(patch, &mut tables);
     let c = counts(patch);
-    test_rows(figure, &tables, c.vertices, rows)
+    let tested = test_rows(figure, &tables, c.vertices, rows);
+    Checked {
+        number: tested.number,
+        line: 65535,
+        row: tested.row,
+    }
 }

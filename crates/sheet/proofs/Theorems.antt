@@ -10,14 +10,15 @@ use Rattle.sheet.specs.declared.fields.SheetLine.{SheetLine}
 use Rattle.sheet.specs.declared.fields.SheetCounts.{SheetCounts}
 use Rattle.sheet.specs.declared.check.Verdict.{Verdict}
 use Rattle.sheet.specs.Fields.{lineOf}
+use Rattle.sheet.specs.Check.{verdictOf}
 use Rattle.sheet.proofs.Words.{field-lt}
 
 -- a check answers 0 exactly where the sheet is as its checks want it, and one of its five numbers otherwise
-pub check-accepts : (L : Limits) (sheet : List ℕ) → (sheetVerdict L sheet ≡ 0) ↔ Accepted L sheet
+pub check-accepts : (L : Limits) (sheet : List ℕ) → (sheetVerdict L sheet .number ≡ 0) ↔ Accepted L sheet
 unfolding sheetVerdict
 check-accepts L sheet = accepted-iff L sheet
 
-pub check-numbers : (L : Limits) (sheet : List ℕ) → (sheetVerdict L sheet ≡ 0) ⊎ List·Memᴰ (sheetVerdict L sheet) ((L .ten + 1) ∷ (L .ten + 2) ∷ (L .ten + 3) ∷ (L .ten + 4) ∷ (L .ten + 5) ∷ [])
+pub check-numbers : (L : Limits) (sheet : List ℕ) → (sheetVerdict L sheet .number ≡ 0) ⊎ List·Memᴰ (sheetVerdict L sheet .number) ((L .ten + 1) ∷ (L .ten + 2) ∷ (L .ten + 3) ∷ (L .ten + 4) ∷ (L .ten + 5) ∷ [])
 unfolding sheetVerdict
 check-numbers L sheet = verdict-number (sheetChecks L sheet) (sheet-numbered L (tens (L .ten) (List·Memᴰ·head refl) (List·Memᴰ·tail (List·Memᴰ·head refl)) (List·Memᴰ·tail (List·Memᴰ·tail (List·Memᴰ·head refl))) (List·Memᴰ·tail (List·Memᴰ·tail (List·Memᴰ·tail (List·Memᴰ·head refl)))) (List·Memᴰ·tail (List·Memᴰ·tail (List·Memᴰ·tail (List·Memᴰ·tail (List·Memᴰ·head refl)))))) sheet)
 
@@ -39,11 +40,11 @@ pub counts-once : (n m : ℕ) (r r′ : SheetCounts) → (r .vertices ≡ n) × 
 counts-once n m r r′ e f = let v = e .0 ∙ sym (f .0) in let l = e .1 ∙ sym (f .1) in λ i. record { vertices = v i; lines = l i }
 
 -- of `check_figure` and of `check_patch`
-check-once : (L : Limits) (sheet : List ℕ) (r r′ : Verdict) → r .number ≡ sheetVerdict L sheet → r′ .number ≡ sheetVerdict L sheet → r ≡ r′
-check-once L sheet r r′ e f = let g = e ∙ sym f in λ i. record { number = g i }
+check-once : (L : Limits) (sheet : List ℕ) (r r′ : Verdict) → verdictOf r ≡ sheetVerdict L sheet → verdictOf r′ ≡ sheetVerdict L sheet → r ≡ r′
+check-once L sheet r r′ e f = let g = e ∙ sym f in λ i. record { number = g i .number; line = g i .line }
 
-pub check-figure-once : (sheet : List ℕ) (r r′ : Verdict) → r .number ≡ sheetVerdict figureLimits sheet → r′ .number ≡ sheetVerdict figureLimits sheet → r ≡ r′
+pub check-figure-once : (sheet : List ℕ) (r r′ : Verdict) → verdictOf r ≡ sheetVerdict figureLimits sheet → verdictOf r′ ≡ sheetVerdict figureLimits sheet → r ≡ r′
 check-figure-once = check-once figureLimits
 
-pub check-patch-once : (sheet : List ℕ) (r r′ : Verdict) → r .number ≡ sheetVerdict patchLimits sheet → r′ .number ≡ sheetVerdict patchLimits sheet → r ≡ r′
+pub check-patch-once : (sheet : List ℕ) (r r′ : Verdict) → verdictOf r ≡ sheetVerdict patchLimits sheet → verdictOf r′ ≡ sheetVerdict patchLimits sheet → r ≡ r′
 check-patch-once = check-once patchLimits

@@ -1,4 +1,4 @@
--- The number of the first check to fail, part by part: of the checks before the lines, of one line, and of lines one after the other.
+-- What the first check to fail answers, part by part: of the checks before the lines, of one line, and of lines one after the other.
 use Prim.Native.Nat.{ℕ, zero, suc, _+_, _*_, _-_, _^_, _≤_, _<_}
 use mathlib.Core.Path.{_≡_, refl, sym, _∙_}
 use mathlib.Core.Logic.{inl, inr}
@@ -15,9 +15,9 @@ use lib.Pow.{pow-pos}
 use Rattle.laws.specs.Lists.{all, upto}
 use Rattle.laws.proofs.Lists.{split}
 use Rattle.rules.specs.Sheet.{Line, bitAt, word, field, vertexCount, lineCount, bitLength, byteLength, linesHeld}
-use Rattle.rules.specs.Checks.{verdict, Limits, counted, cleared, lineFits, comesAfter, lineChecks, sheetVerdict}
+use Rattle.rules.specs.Checks.{Verdict, lineless, verdict, Limits, counted, cleared, lineFits, comesAfter, lineChecks, sheetVerdict}
 use Rattle.rules.proofs.Accepted.{verdict-first, verdict-rest}
-use Rattle.sheet.specs.Check.{headChecks, lineVerdict}
+use Rattle.sheet.specs.Check.{headChecks, lineNumber}
 
 -- the fit of a line, test by test
 module _ (n : ℕ) (l : Line) where
@@ -64,25 +64,40 @@ module _ (k l : Line) where
     ]
   ]
 
--- the two checks of one line
+-- the two checks of one line, which is line j
 module _ (ten n : ℕ) (k l : Line) where
-  pub line-unfit : lineFits n l ≡ false → lineVerdict ten n k l ≡ ten + 4
-  unfolding lineVerdict verdict
+  pub line-unfit : lineFits n l ≡ false → lineNumber ten n k l ≡ ten + 4
+  unfolding lineNumber
   line-unfit e = rw e
 
-  pub line-late : lineFits n l ≡ true → comesAfter k l ≡ false → lineVerdict ten n k l ≡ ten + 5
-  unfolding lineVerdict verdict
+  pub line-late : lineFits n l ≡ true → comesAfter k l ≡ false → lineNumber ten n k l ≡ ten + 5
+  unfolding lineNumber
   line-late e f = rw (e, f)
 
-  pub line-good : lineFits n l ≡ true → comesAfter k l ≡ true → lineVerdict ten n k l ≡ 0
-  unfolding lineVerdict verdict
+  pub line-good : lineFits n l ≡ true → comesAfter k l ≡ true → lineNumber ten n k l ≡ 0
+  unfolding lineNumber
   line-good e f = rw (e, f)
+
+  -- the first of them to fail says of the lines from it on, and after 0 the later lines say
+  pub line-refused : (j : ℕ) (ls : List Line) → (lineNumber ten n k l ≡ 0 → ⊥) → verdict (lineChecks ten n j (some k) (l ∷ ls)) ≡ record { number = lineNumber ten n k l; line = j }
+  unfolding lineNumber verdict
+  line-refused j ls f = elim (split (lineFits n l)) [
+    | inl e ↦ elim (split (comesAfter k l)) [ inl g ↦ absurd (f (rw (e, g))) | inr g ↦ rw (e, g) ]
+    | inr e ↦ rw e
+  ]
+
+  pub line-passed : (j : ℕ) (ls : List Line) → lineNumber ten n k l ≡ 0 → verdict (lineChecks ten n j (some k) (l ∷ ls)) ≡ verdict (lineChecks ten n (suc j) (some l) ls)
+  unfolding lineNumber verdict
+  line-passed j ls z = elim (split (lineFits n l)) [
+    | inl e ↦ elim (split (comesAfter k l)) [ inl g ↦ rw (e, g) | inr g ↦ absurd (omega (arith, rw (e, g) at z)) ]
+    | inr e ↦ absurd (omega (arith, rw e at z))
+  ]
 
 -- the line before the first
 abbrev pub nought : Line
 nought = record { type = 0; first = 0; second = 0 }
 
-pub from-nought : (ten n : ℕ) (ls : List Line) → verdict (lineChecks ten n none ls) ≡ verdict (lineChecks ten n (some nought) ls)
+pub from-nought : (ten n : ℕ) (ls : List Line) → verdict (lineChecks ten n 0 none ls) ≡ verdict (lineChecks ten n 0 (some nought) ls)
 unfolding verdict
 from-nought ten n [] = refl
 from-nought ten n (l ∷ ls) = elim (split (lineFits n l)) [ inl e ↦ rw (e, after e) | inr e ↦ rw e ]
@@ -105,21 +120,19 @@ module _ (g : ℕ → Line) (ten n m : ℕ) where
       rw (e, f)
 
   -- the verdict on the lines from the i-th on, after line k
-  abbrev pub from : ℕ → Line → ℕ
-  from i k = verdict (lineChecks ten n (some k) (map g (upto (m - i) i)))
+  abbrev pub from : ℕ → Line → Verdict
+  from i k = verdict (lineChecks ten n i (some k) (map g (upto (m - i) i)))
 
-  pub turns-begin : (k : Line) → k ≡ nought → verdict (lineChecks ten n none (map g (upto m 0))) ≡ from 0 k
+  pub turns-begin : (k : Line) → k ≡ nought → verdict (lineChecks ten n 0 none (map g (upto m 0))) ≡ from 0 k
   turns-begin k e = let z : m - 0 ≡ m = omega arith in rw (e, z) (from-nought ten n (map g (upto m 0)))
 
-  pub turn-refused : (i : ℕ) (k l : Line) → i < m → l ≡ g i → (lineVerdict ten n k l ≡ 0 → ⊥) → from i k ≡ lineVerdict ten n k l
-  unfolding lineVerdict
-  turn-refused i k l h e f = rw (upto-step i h, sym e) (verdict-first ((lineFits n l, ten + 4) ∷ (comesAfter k l, ten + 5) ∷ []) _ f)
+  pub turn-refused : (i : ℕ) (k l : Line) → i < m → l ≡ g i → (lineNumber ten n k l ≡ 0 → ⊥) → from i k ≡ record { number = lineNumber ten n k l; line = i }
+  turn-refused i k l h e f = rw (upto-step i h, sym e) (line-refused ten n k l i _ f)
 
-  pub turn-passed : (i : ℕ) (k l : Line) → i < m → l ≡ g i → lineVerdict ten n k l ≡ 0 → from i k ≡ from (i + 1) l
-  unfolding lineVerdict
-  turn-passed i k l h e z = rw (upto-step i h, sym e) (verdict-rest ((lineFits n l, ten + 4) ∷ (comesAfter k l, ten + 5) ∷ []) _ (omega arith, (omega arith, tt)) z)
+  pub turn-passed : (i : ℕ) (k l : Line) → i < m → l ≡ g i → lineNumber ten n k l ≡ 0 → from i k ≡ from (i + 1) l
+  turn-passed i k l h e z = let f : suc i ≡ i + 1 = omega arith in rw (upto-step i h, sym e) (rw f at (line-passed ten n k l i (map g (upto (m - (i + 1)) (i + 1))) z))
 
-  pub turns-over : (i : ℕ) (k : Line) → m ≤ i → from i k ≡ 0
+  pub turns-over : (i : ℕ) (k : Line) → m ≤ i → from i k ≡ lineless 0
   unfolding verdict
   turns-over i k h = let e : m - i ≡ 0 = omega arith in rw e
 
@@ -147,29 +160,29 @@ module _ (L : Limits) (bytes : List ℕ) where
   abbrev m : ℕ
   m = lineCount bytes
 
-  pub head-short : length bytes < 3 → verdict (headChecks L bytes) ≡ L .ten + 1
+  pub head-short : length bytes < 3 → verdict (headChecks L bytes) ≡ lineless (L .ten + 1)
   unfolding verdict
   head-short h = rw (lt-leb 3 (length bytes) h)
 
   module _ (a : 3 ≤ length bytes) where
-    head-uncounted : counted L n m ≡ false → verdict (headChecks L bytes) ≡ L .ten + 2
+    head-uncounted : counted L n m ≡ false → verdict (headChecks L bytes) ≡ lineless (L .ten + 2)
     unfolding verdict
     head-uncounted e = rw (le-leb 3 (length bytes) a, e)
 
-    pub head-none : n ≡ 0 → verdict (headChecks L bytes) ≡ L .ten + 2
+    pub head-none : n ≡ 0 → verdict (headChecks L bytes) ≡ lineless (L .ten + 2)
     head-none e = head-uncounted (rw e)
 
-    pub head-vertices : L .vertices < n → verdict (headChecks L bytes) ≡ L .ten + 2
+    pub head-vertices : L .vertices < n → verdict (headChecks L bytes) ≡ lineless (L .ten + 2)
     head-vertices h = head-uncounted (rw (lt-leb n (L .vertices) h, and-false))
 
-    pub head-lines : L .lines < m → verdict (headChecks L bytes) ≡ L .ten + 2
+    pub head-lines : L .lines < m → verdict (headChecks L bytes) ≡ lineless (L .ten + 2)
     head-lines h = head-uncounted (rw (lt-leb m (L .lines) h, and-false, and-false))
 
     module _ (b : (n ≡ 0 → ⊥) × (n ≤ L .vertices) × (m ≤ L .lines)) where
       head-counted : counted L n m ≡ true
       head-counted = rw (le-leb 1 n (omega arith), le-leb n (L .vertices) (b .1), le-leb m (L .lines) (b .2))
 
-      pub head-long : (length bytes ≡ byteLength n m → ⊥) → verdict (headChecks L bytes) ≡ L .ten + 1
+      pub head-long : (length bytes ≡ byteLength n m → ⊥) → verdict (headChecks L bytes) ≡ lineless (L .ten + 1)
       unfolding verdict
       head-long h = rw (le-leb 3 (length bytes) a, head-counted, ne-eqb (length bytes) (byteLength n m) h)
 
@@ -177,19 +190,19 @@ module _ (L : Limits) (bytes : List ℕ) where
         filling : cleared bytes ≡ eqb (field bytes (bitLength n m) (8 * length bytes - bitLength n m)) 0
         filling = clear-word (bitAt bytes) _ _
 
-        pub head-filled : (field bytes (bitLength n m) (8 * length bytes - bitLength n m) ≡ 0 → ⊥) → verdict (headChecks L bytes) ≡ L .ten + 3
+        pub head-filled : (field bytes (bitLength n m) (8 * length bytes - bitLength n m) ≡ 0 → ⊥) → verdict (headChecks L bytes) ≡ lineless (L .ten + 3)
         unfolding verdict
         head-filled h = rw (le-leb 3 (length bytes) a, head-counted, eq-eqb (length bytes) (byteLength n m) e, filling, ne-eqb _ 0 h)
 
-        pub head-good : field bytes (bitLength n m) (8 * length bytes - bitLength n m) ≡ 0 → verdict (headChecks L bytes) ≡ 0
+        pub head-good : field bytes (bitLength n m) (8 * length bytes - bitLength n m) ≡ 0 → verdict (headChecks L bytes) ≡ lineless 0
         unfolding verdict
         head-good h = rw (le-leb 3 (length bytes) a, head-counted, eq-eqb (length bytes) (byteLength n m) e, filling, eq-eqb _ 0 h)
 
-  -- a sheet's number is that of the checks before its lines, or else that of its lines
-  pub sheet-head : (verdict (headChecks L bytes) ≡ 0 → ⊥) → sheetVerdict L bytes ≡ verdict (headChecks L bytes)
+  -- a sheet's answer is that of the checks before its lines, or else that of its lines
+  pub sheet-head : (verdict (headChecks L bytes) .number ≡ 0 → ⊥) → sheetVerdict L bytes ≡ verdict (headChecks L bytes)
   unfolding sheetVerdict
-  sheet-head f = verdict-first (headChecks L bytes) (lineChecks (L .ten) n none (linesHeld bytes n m)) f
+  sheet-head f = verdict-first (headChecks L bytes) (lineChecks (L .ten) n 0 none (linesHeld bytes n m)) f
 
-  pub sheet-lines : verdict (headChecks L bytes) ≡ 0 → sheetVerdict L bytes ≡ verdict (lineChecks (L .ten) n none (linesHeld bytes n m))
+  pub sheet-lines : verdict (headChecks L bytes) .number ≡ 0 → sheetVerdict L bytes ≡ verdict (lineChecks (L .ten) n 0 none (linesHeld bytes n m))
   unfolding sheetVerdict
-  sheet-lines z = verdict-rest (headChecks L bytes) (lineChecks (L .ten) n none (linesHeld bytes n m)) (omega arith, (omega arith, (omega arith, (omega arith, tt)))) z
+  sheet-lines z = verdict-rest (headChecks L bytes) (lineChecks (L .ten) n 0 none (linesHeld bytes n m)) (omega arith, (omega arith, (omega arith, (omega arith, tt)))) z

@@ -3,9 +3,9 @@ ghost use mathlib.Core.Path.{_≡_};
 ghost use mathlib.Core.Option.{none};
 ghost use Prim.Native.Nat.{_≤_};
 ghost use Rattle.rules.specs.Sheet as rules;
-ghost use Rattle.rules.specs.Checks.{verdict, lineFits, comesAfter, lineChecks, sheetVerdict, figureLimits, patchLimits};
+ghost use Rattle.rules.specs.Checks.{lineless, verdict, lineFits, comesAfter, lineChecks, sheetVerdict, figureLimits, patchLimits};
 ghost use Rattle.sheet.specs.Fields.{lineOf};
-ghost use Rattle.sheet.specs.Check.{limitsOf, headChecks, lineVerdict};
+ghost use Rattle.sheet.specs.Check.{limitsOf, verdictOf, headChecks, lineNumber};
 use crate::fields::SheetLine;
 use crate::fields::bit_length;
 use crate::fields::counts;
@@ -19,9 +19,20 @@ pub(crate) struct SheetLimits {
     pub ten: u16,
 }
 
-// What a check answers: 0, or the number of the first check to fail.
+// What a check answers: 0, or the number of the first check to fail; and the line that it is about, counted from 0.
 pub struct Verdict {
     pub number: u16,
+    pub line: u16,
+}
+
+// An answer that is about no line.
+pub fn lineless(number: u16) -> Verdict
+    ensures { λ r. ⌜ verdictOf r ≡ lineless number ⌝ }
+{
+    Verdict {
+        number,
+        line: 65535,
+    }
 }
 
 pub(crate) fn line_fits(line: SheetLine, n: u16) -> bool
@@ -47,7 +58,7 @@ pub(crate) fn comes_after(before: SheetLine, line: SheetLine) -> bool
 // The number that the checks of one line give: its fit before its order.
 pub fn line_number(before: SheetLine, line: SheetLine, n: u16, ten: u16) -> u16
     requires { ⌜ ten ≤ 20 ⌝ }
-    ensures { λ r. ⌜ r ≡ lineVerdict ten n (lineOf before) (lineOf line) ⌝ }
+    ensures { λ r. ⌜ r ≡ lineNumber ten n (lineOf before) (lineOf line) ⌝ }
 {
     if !line_fits(line, n) {
         return ten + 4;
@@ -69,30 +80,30 @@ pub fn no_line() -> SheetLine
     }
 }
 
-fn check_lines(sheet: &[u8], n: u16, m: u16, ten: u16) -> u16
+fn check_lines(sheet: &[u8], n: u16, m: u16, ten: u16) -> Verdict
     requires { ⌜ ten ≤ 20 ⌝ }
-    ensures { λ r. ⌜ r ≡ verdict (lineChecks ten n none (rules.linesHeld (now (sheet .entry)) n m)) ⌝ }
+    ensures { λ r. ⌜ verdictOf r ≡ verdict (lineChecks ten n 0 none (rules.linesHeld (now (sheet .entry)) n m)) ⌝ }
 {
     let mut before = no_line();
     let mut at = 22 + 6 * (n as usize);
     let mut i = 0;
     while i < m {
         let line = line_at(sheet, at);
-        i += 1;
         at += 20;
         let number = line_number(before, line, n, ten);
         if number != 0 {
-            return number;
+            return Verdict { number, line: i };
         }
         before = line;
+        i += 1;
     }
-    0
+    lineless(0)
 }
 
 // The checks before those of the lines: under 3 bytes, counts, length, filling.
 fn check_head(sheet: &[u8], limits: SheetLimits) -> u16
     requires { ⌜ limits .ten ≤ 20 ⌝ }
-    ensures { λ r. ⌜ r ≡ verdict (headChecks (limitsOf limits) (now (sheet .entry))) ⌝ }
+    ensures { λ r. ⌜ lineless r ≡ verdict (headChecks (limitsOf limits) (now (sheet .entry))) ⌝ }
 {
     if sheet.len() < 3 {
         return limits.ten + 1;
@@ -119,21 +130,19 @@ fn check_head(sheet: &[u8], limits: SheetLimits) -> u16
 
 fn check(sheet: &[u8], limits: SheetLimits) -> Verdict
     requires { ⌜ limits .ten ≤ 20 ⌝ }
-    ensures { λ r. ⌜ r .number ≡ sheetVerdict (limitsOf limits) (now (sheet .entry)) ⌝ }
+    ensures { λ r. ⌜ verdictOf r ≡ sheetVerdict (limitsOf limits) (now (sheet .entry)) ⌝ }
 {
     let head = check_head(sheet, limits);
     if head != 0 {
-        return Verdict { number: head };
+        return lineless(head);
     }
     let c = counts(sheet);
-    Verdict {
-        number: check_lines(sheet, c.vertices, c.lines, limits.ten),
-    }
+    check_lines(sheet, c.vertices, c.lines, limits.ten)
 }
 
 // The checks of a figure's sheet, but that the figure is connected.
 pub fn check_figure(sheet: &[u8]) -> Verdict
-    ensures { λ r. ⌜ r .number ≡ sheetVerdict figureLimits (now (sheet .entry)) ⌝ }
+    ensures { λ r. ⌜ verdictOf r ≡ sheetVerdict figureLimits (now (sheet .entry)) ⌝ }
 {
     let limits = SheetLimits {
         vertices: 32,
@@ -145,7 +154,7 @@ pub fn check_figure(sheet: &[u8]) -> Verdict
 
 // The checks of a patch's sheet.
 pub fn check_patch(sheet: &[u8]) -> Verdict
-    ensures { λ r. ⌜ r .number ≡ sheetVerdict patchLimits (now (sheet .entry)) ⌝ }
+    ensures { λ r. ⌜ verdictOf r ≡ sheetVerdict patchLimits (now (sheet .entry)) ⌝ }
 {
     let limits = SheetLimits {
         vertices: 512,

@@ -6,4 +6,4 @@ use Rattle.sheet_reader.specs.declared.ReadAnswer.{ReadAnswer}
 
 -- what the reader returned, with the two lists afterwards
 abbrev pub asRead : ReadAnswer → (kindList lineList : List ℕ) → Read
-asRead r kindList lineList = record { number = r .number; vertices = r .vertices; lines = r .lines; kindList = kindList; lineList = lineList }
+asRead r kindList lineList = record { number = r .number; line = r .line; vertices = r .vertices; lines = r .lines; kindList = kindList; lineList = lineList }

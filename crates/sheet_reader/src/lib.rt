@@ -5,15 +5,18 @@ ghost use lib.ListN.{length, set};
 ghost use Rattle.rules.specs.Sheet.{kindsHeld, linesHeld};
 ghost use Rattle.rules.specs.Calls.{over, triples, reader};
 ghost use Rattle.sheet_reader.specs.Answers.{asRead};
+use sheet::check::Verdict;
 use sheet::check::check_patch;
+use sheet::check::lineless;
 use sheet::fields::SheetLine;
 use sheet::fields::counts;
 use sheet::fields::kind_at;
 use sheet::fields::line_at;
 
-// What the reader returns: its number and the counts n and m.
+// What the reader returns: its number, the line that the number is about, and the counts n and m.
 pub struct ReadAnswer {
     pub number: u16,
+    pub line: u16,
     pub vertices: u16,
     pub lines: u16,
 }
@@ -52,11 +55,12 @@ fn read_lines(sheet: &[u8], n: usize, m: usize, lines: &mut [u16])
 }
 
 // A refusal: no counts.
-fn unread(number: u16) -> ReadAnswer
-    ensures { λ r. ⌜ (r .number ≡ number) × (r .vertices ≡ 0) × (r .lines ≡ 0) ⌝ }
+fn unread(verdict: Verdict) -> ReadAnswer
+    ensures { λ r. ⌜ (r .number ≡ verdict .number) × (r .line ≡ verdict .line) × (r .vertices ≡ 0) × (r .lines ≡ 0) ⌝ }
 {
     ReadAnswer {
-        number,
+        number: verdict.number,
+        line: verdict.line,
         vertices: 0,
         lines: 0,
     }
@@ -67,21 +71,22 @@ pub fn read(sheet: &[u8], kinds: &mut [u16], lines: &mut [u16]) -> ReadAnswer
 {
     let verdict = check_patch(sheet);
     if verdict.number != 0 {
-        return unread(verdict.number);
+        return unread(verdict);
     }
     let c = counts(sheet);
     let n = c.vertices as usize;
     let m = c.lines as usize;
     if kinds.len() < n {
-        return unread(33);
+        return unread(lineless(33));
     }
     if lines.len() < 3 * m {
-        return unread(33);
+        return unread(lineless(33));
     }
     read_kinds(sheet, n, kinds);
     read_lines(sheet, n, m, lines);
     ReadAnswer {
         number: 0,
+        line: 65535,
         vertices: c.vertices,
         lines: c.lines,
     }

@@ -6,4 +6,4 @@ use Rattle.sheet_writer.specs.declared.WriteAnswer.{WriteAnswer}
 
 -- what the writer returned, with the bytes afterwards
 abbrev pub asWritten : WriteAnswer → List ℕ → Written
-asWritten r bytes = record { number = r .number; count = r .count; bytes = bytes }
+asWritten r bytes = record { number = r .number; line = r .line; count = r .count; bytes = bytes }

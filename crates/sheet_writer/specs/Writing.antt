@@ -6,7 +6,7 @@ use lib.Dec.{eqb, leb}
 use lib.ListN.{length, getD}
 use Rattle.laws.specs.Lists.{all}
 use Rattle.rules.specs.Sheet.{Line}
-use Rattle.rules.specs.Checks.{Check, patchLimits, counted, lineChecks}
+use Rattle.rules.specs.Checks.{lineless, Check, patchLimits, counted, lineChecks}
 use Rattle.rules.specs.Calls.{linesOf}
 
 -- line j of a list of (type, first, second)
@@ -24,7 +24,7 @@ LinesFit ls = (j : ℕ) → j < length ls / 3 → (lineIn ls j .type < 4) × (li
 -- the writer's checks before the one for room
 abbrev pub listChecks : (kindList lineList : List ℕ) → List Check
 listChecks ks ls =
-    (eqb (length ls % 3) 0, 34)
-    ∷ (counted patchLimits (length ks) (length ls / 3), 22)
-    ∷ (all (λ k. leb k 63) ks, 35)
-    ∷ lineChecks 20 (length ks) none (linesOf ls)
+    (eqb (length ls % 3) 0, lineless 34)
+    ∷ (counted patchLimits (length ks) (length ls / 3), lineless 22)
+    ∷ (all (λ k. leb k 63) ks, lineless 35)
+    ∷ lineChecks 20 (length ks) 0 none (linesOf ls)

@@ -8,6 +8,7 @@ ghost use Rattle.laws.specs.Lists.{all};
 ghost use Rattle.rules.specs.Sheet.{kindBits, lineBits, byteLength, written};
 ghost use Rattle.rules.specs.Checks.{verdict, lineChecks};
 ghost use Rattle.rules.specs.Calls.{over, linesOf, sheetOf, writer};
+ghost use Rattle.sheet.specs.Check.{verdictOf};
 ghost use Rattle.sheet.specs.Fields.{lineOf};
 ghost use Rattle.sheet_writer.specs.Answers.{asWritten};
 ghost use Rattle.sheet_writer.specs.Pen.{Able, Added};
@@ -17,14 +18,17 @@ mod pen;
 
 use crate::pen::Pen;
 use crate::pen::put;
+use sheet::check::Verdict;
 use sheet::check::line_number;
+use sheet::check::lineless;
 use sheet::check::no_line;
 use sheet::fields::SheetLine;
 use sheet::fields::bit_length;
 
-// What the writer returns: its number and the count of bytes.
+// What the writer returns: its number, the line that the number is about, and the count of bytes.
 pub struct WriteAnswer {
     pub number: u16,
+    pub line: u16,
     pub count: usize,
 }
 
@@ -52,42 +56,46 @@ fn kinds_fit(kinds: &[u16]) -> bool
     true
 }
 
-fn check_line_list(lines: &[u16], n: u16) -> u16
-    ensures { λ r. ⌜ r ≡ verdict (lineChecks 20 n none (linesOf (now (lines .entry)))) ⌝ }
+fn check_line_list(lines: &[u16], n: u16) -> Verdict
+    requires { ⌜ length (now lines) / 3 ≤ 2048 ⌝ }
+    ensures { λ r. ⌜ verdictOf r ≡ verdict (lineChecks 20 n 0 none (linesOf (now (lines .entry)))) ⌝ }
 {
     let m = lines.len() / 3;
     let mut before = no_line();
     let mut j = 0;
     while j < m {
         let line = line_in(lines, j);
-        j += 1;
         let number = line_number(before, line, n, 20);
         if number != 0 {
-            return number;
+            return Verdict {
+                number,
+                line: j as u16,
+            };
         }
         before = line;
+        j += 1;
     }
-    0
+    lineless(0)
 }
 
 // The writer's checks before the one for room.
-fn check_lists(kinds: &[u16], lines: &[u16]) -> u16
-    ensures { λ r. ⌜ r ≡ verdict (listChecks (now (kinds .entry)) (now (lines .entry))) ⌝ }
+fn check_lists(kinds: &[u16], lines: &[u16]) -> Verdict
+    ensures { λ r. ⌜ verdictOf r ≡ verdict (listChecks (now (kinds .entry)) (now (lines .entry))) ⌝ }
 {
     if lines.len() % 3 != 0 {
-        return 34;
+        return lineless(34);
     }
     if kinds.len() == 0 {
-        return 22;
+        return lineless(22);
     }
     if 512 < kinds.len() {
-        return 22;
+        return lineless(22);
     }
     if 2048 < lines.len() / 3 {
-        return 22;
+        return lineless(22);
     }
     if !kinds_fit(kinds) {
-        return 35;
+        return lineless(35);
     }
     check_line_list(lines, kinds.len() as u16)
 }
@@ -146,23 +154,31 @@ fn write_sheet(kinds: &[u16], lines: &[u16], bytes: &mut [u8])
 }
 
 // A refusal: no count.
-fn unwritten(number: u16) -> WriteAnswer
-    ensures { λ r. ⌜ (r .number ≡ number) × (r .count ≡ 0) ⌝ }
+fn unwritten(verdict: Verdict) -> WriteAnswer
+    ensures { λ r. ⌜ (r .number ≡ verdict .number) × (r .line ≡ verdict .line) × (r .count ≡ 0) ⌝ }
 {
-    WriteAnswer { number, count: 0 }
+    WriteAnswer {
+        number: verdict.number,
+        line: verdict.line,
+        count: 0,
+    }
 }
 
 pub fn write(kinds: &[u16], lines: &[u16], bytes: &mut [u8]) -> WriteAnswer
     ensures { λ r. ⌜ asWritten r (now (bytes .exit)) ≡ writer (now (kinds .entry)) (now (lines .entry)) (now (bytes .entry)) ⌝ }
 {
-    let number = check_lists(kinds, lines);
-    if number != 0 {
-        return unwritten(number);
+    let verdict = check_lists(kinds, lines);
+    if verdict.number != 0 {
+        return unwritten(verdict);
     }
     let count = (bit_length(kinds.len(), lines.len() / 3) + 7) / 8;
     if bytes.len() < count {
-        return unwritten(33);
+        return unwritten(lineless(33));
     }
     write_sheet(kinds, lines, bytes);
-    WriteAnswer { number: 0, count }
+    WriteAnswer {
+        number: 0,
+        line: 65535,
+        count,
+    }
 }

@@ -22,7 +22,7 @@ check-lines-requires : tie.Need-check-lines-requires
 check-lines-requires c κs = search needs
 
 returns-2 : tie.Need-returns-2
-returns-2 c = let a = c .before .before .before .before .before .args in c .check-lines .ensures ∙ ap₂ (λ n m. verdict (lineChecks (a .limits .ten) n none (linesHeld (a .sheet .now) n m))) (c .before .counts .ensures .0) (c .before .counts .ensures .1) ∙ sym (sheet-lines (limitsOf (a .limits)) (a .sheet .now) (sym (c .before .before .before .check-head .ensures) ∙ c .before .before .if1 .left))
+returns-2 c = let a = c .before .before .before .before .before .args in c .check-lines .ensures ∙ ap₂ (λ n m. verdict (lineChecks (a .limits .ten) n 0 none (linesHeld (a .sheet .now) n m))) (c .before .counts .ensures .0) (c .before .counts .ensures .1) ∙ sym (sheet-lines (limitsOf (a .limits)) (a .sheet .now) (sym (c .before .before .before .check-head .ensures) ∙ c .before .before .if1 .left))
 
 pub check-spec : {M : Type 1} → statement M
 check-spec =

@@ -14,7 +14,7 @@ use Rattle.sheet.proofs.check.check_lines.Statement.{statement}
 use Rattle.sheet.proofs.check.check_lines.Tie as tie
 
 abbrev Inv-loop : tie.InvT-loop
-Inv-loop sheet n m ten before₀ at₀ i₀ before at i = (i ≤ m) × (at ≡ 22 + 6 * n + 20 * i) × (verdict (lineChecks ten n none (linesHeld sheet n m)) ≡ verdict (lineChecks ten n (some (lineOf before)) (map (λ j. lineAt sheet (22 + 6 * n + 20 * j)) (upto (m - i) i))))
+Inv-loop sheet n m ten before₀ at₀ i₀ before at i = (i ≤ m) × (at ≡ 22 + 6 * n + 20 * i) × (verdict (lineChecks ten n 0 none (linesHeld sheet n m)) ≡ verdict (lineChecks ten n i (some (lineOf before)) (map (λ j. lineAt sheet (22 + 6 * n + 20 * j)) (upto (m - i) i))))
 
 abbrev μ-loop : tie.MeasureT-loop
 μ-loop sheet n m ten before₀ at₀ i₀ before at i = m - i
