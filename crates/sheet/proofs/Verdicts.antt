@@ -1,6 +1,6 @@
 -- What the first check to fail answers, part by part: of the checks before the lines, of one line, and of lines one after the other.
 use Prim.Native.Nat.{ℕ, zero, suc, _+_, _*_, _-_, _^_, _≤_, _<_}
-use mathlib.Core.Path.{_≡_, refl, sym, _∙_}
+use mathlib.Core.Path.{_≡_, refl, ap, sym, _∙_}
 use mathlib.Core.Logic.{inl, inr}
 use mathlib.Core.List.{List, [], _∷_, map}
 use mathlib.Core.Bool.{true, false, and-false, false≢true}
@@ -127,10 +127,10 @@ module _ (g : ℕ → Line) (ten n m : ℕ) where
   turns-begin k e = let z : m - 0 ≡ m = omega arith in rw (e, z) (from-nought ten n (map g (upto m 0)))
 
   pub turn-refused : (i : ℕ) (k l : Line) → i < m → l ≡ g i → (lineNumber ten n k l ≡ 0 → ⊥) → from i k ≡ record { number = lineNumber ten n k l; line = i }
-  turn-refused i k l h e f = rw (upto-step i h, sym e) (line-refused ten n k l i _ f)
+  turn-refused i k l h e f = rw (upto-step i h, sym e) (line-refused ten n k l i (map g (upto (m - (i + 1)) (i + 1))) f)
 
   pub turn-passed : (i : ℕ) (k l : Line) → i < m → l ≡ g i → lineNumber ten n k l ≡ 0 → from i k ≡ from (i + 1) l
-  turn-passed i k l h e z = let f : suc i ≡ i + 1 = omega arith in rw (upto-step i h, sym e) (rw f at (line-passed ten n k l i (map g (upto (m - (i + 1)) (i + 1))) z))
+  turn-passed i k l h e z = let f : suc i ≡ i + 1 = omega arith in rw (upto-step i h, sym e) (line-passed ten n k l i (map g (upto (m - (i + 1)) (i + 1))) z ∙ ap (λ j. verdict (lineChecks ten n j (some l) (map g (upto (m - (i + 1)) (i + 1))))) f)
 
   pub turns-over : (i : ℕ) (k : Line) → m ≤ i → from i k ≡ lineless 0
   unfolding verdict

@@ -37,9 +37,6 @@ loop-holds c = let a = c .before .before .args in
 line-at-requires : tie.Need-line-at-requires Inv-loop μ-loop
 line-at-requires c κs = search needs
 
-add-i : tie.Need-add-i Inv-loop μ-loop
-add-i c = search needs
-
 add-at-2 : tie.Need-add-at-2 Inv-loop μ-loop
 add-at-2 c = search needs
 
@@ -50,7 +47,10 @@ returns : tie.Need-returns Inv-loop μ-loop
 returns c = let a = c .before .before .before .before .before .before .before .args in
     let l = c .before .before .before .before .loop in
     let g : ℕ → Line = λ j. lineAt (a .sheet .now) (22 + 6 * a .n + 20 * j) in
-    c .before .line-number .ensures ∙ sym (l .inv .2 ∙ turn-refused g (a .ten) (a .n) (a .m) (l .i) (lineOf (l .before)) (lineOf (c .before .before .line-at .result)) (omega arith) (c .before .before .line-at .ensures ∙ ap (lineAt (a .sheet .now)) (l .inv .1)) (λ z. c .if1 .taken (c .before .line-number .ensures ∙ z)))
+    ap (λ k. record { number = k; line = l .i }) (c .before .line-number .ensures) ∙ sym (l .inv .2 ∙ turn-refused g (a .ten) (a .n) (a .m) (l .i) (lineOf (l .before)) (lineOf (c .before .before .line-at .result)) (omega arith) (c .before .before .line-at .ensures ∙ ap (lineAt (a .sheet .now)) (l .inv .1)) (λ z. c .if1 .taken (c .before .line-number .ensures ∙ z)))
+
+add-i : tie.Need-add-i Inv-loop μ-loop
+add-i c = search needs
 
 loop-less : tie.Need-loop-less Inv-loop μ-loop
 loop-less c = search needs
@@ -61,11 +61,14 @@ loop-again c = let a = c .before .before .before .before .before .before .before
     let g : ℕ → Line = λ j. lineAt (a .sheet .now) (22 + 6 * a .n + 20 * j) in
     (omega arith, omega arith, l .inv .2 ∙ turn-passed g (a .ten) (a .n) (a .m) (l .i) (lineOf (l .before)) (lineOf (c .before .before .line-at .result)) (omega arith) (c .before .before .line-at .ensures ∙ ap (lineAt (a .sheet .now)) (l .inv .1)) (sym (c .before .line-number .ensures) ∙ c .if1 .left))
 
+lineless-requires : tie.Need-lineless-requires Inv-loop μ-loop
+lineless-requires c κs = search needs
+
 returns-2 : tie.Need-returns-2 Inv-loop μ-loop
-returns-2 c = let a = c .before .before .before .before .args in
-    let l = c .before .loop in
+returns-2 c = let a = c .before .before .before .before .before .args in
+    let l = c .before .before .loop in
     let g : ℕ → Line = λ j. lineAt (a .sheet .now) (22 + 6 * a .n + 20 * j) in
-    sym (l .inv .2 ∙ turns-over g (a .ten) (a .n) (a .m) (l .i) (lineOf (l .before)) (omega arith))
+    c .lineless .ensures ∙ sym (l .inv .2 ∙ turns-over g (a .ten) (a .n) (a .m) (l .i) (lineOf (l .before)) (omega arith))
 
 pub check-lines-spec : {M : Type 1} → statement M
 check-lines-spec =
@@ -78,10 +81,11 @@ check-lines-spec =
     add-at
     loop-holds
     line-at-requires
-    add-i
     add-at-2
     line-number-requires
     returns
+    add-i
     loop-less
     loop-again
+    lineless-requires
     returns-2)
