@@ -14,7 +14,7 @@ use Rattle.rules.specs.Graph.{Drawn, Connected}
 use Rattle.rules.specs.Place.{Checked}
 use Rattle.rules.specs.Sheet.{Line, vertexCount, lineCount, bitLength, byteLength, bitAt, held, kindsHeld}
 use Rattle.rules.specs.Live.{live}
-use Rattle.rules.specs.Checks.{Verdict, lineless, Check, verdict, FirstToFail, fails, passes, Limits, figureLimits, patchLimits, counted, cleared, lineFits, comesAfter, follows, Drawable, lineChecks, sheetChecks, Accepted}
+use Rattle.rules.specs.Checks.{Verdict, lineless, Check, verdict, checked, FirstToFail, fails, passes, Limits, figureLimits, patchLimits, counted, cleared, lineFits, comesAfter, follows, Drawable, lineChecks, sheetChecks, Accepted}
 use Rattle.rules.specs.Calls.{endsOf, graphOf, figureOf, patchOf, connected, figureChecks, searchChecks, searchRefusals, Handed}
 use Rattle.laws.proofs.Lists.{split, has-out, keep-out, keep-ordered, all-in, all-out, upto-in, upto-out, length-map-upto}
 use Rattle.rules.proofs.Breadth.{connected-iff}
@@ -23,6 +23,19 @@ use Rattle.rules.proofs.Breadth.{connected-iff}
 pub verdict-cons : (c : Check) (cs : List Check) → 0 < c .1 .number → (verdict (c ∷ cs) .number ≡ 0) ↔ ((c .0 ≡ true) × (verdict cs .number ≡ 0))
 unfolding verdict
 verdict-cons c cs h = elim (split (c .0)) [ inl e ↦ rw e (λ v. (refl, v), λ v. v .1) | inr e ↦ rw e (λ v. absurd (omega arith), λ v. absurd (false≢true (v .0))) ]
+
+-- a call does what it does where all its checks pass, and else refuses by what the first to fail answers
+pub checked-passes : {R : Type 0} (v : Verdict) (taken : R) (refused : Verdict → R) → v .number ≡ 0 → checked v taken refused ≡ taken
+unfolding checked
+checked-passes v taken refused e = rw e
+
+pub checked-fails : {R : Type 0} (v : Verdict) (taken : R) (refused : Verdict → R) → (v .number ≡ 0 → ⊥) → checked v taken refused ≡ refused v
+unfolding checked
+checked-fails v taken refused f = go (v .number) refl
+  where
+    go : (k : ℕ) → v .number ≡ k → checked v taken refused ≡ refused v
+    go zero e = absurd (f e)
+    go (suc k) e = rw e
 
 -- a number is given exactly where its check is the first to fail
 fail-out : (cs : List Check) (k : ℕ) → 0 < k → verdict cs .number ≡ k → FirstToFail k cs

@@ -6,7 +6,7 @@ use lib.ListN.{replicate}
 use Rattle.laws.specs.Masks.{inMask}
 use Rattle.rules.specs.Sheet.{panel, cable, normalled, written, packed, layout, bits, word, bitAt, kindsHeld, lineAt, linesHeld, kindBits, lineBits}
 use Rattle.rules.specs.Live.{plugged, dead}
-use Rattle.rules.specs.Checks.{verdict}
+use Rattle.rules.specs.Checks.{verdict, checked}
 use Rattle.rules.specs.Place.{kindFits, image, placed}
 use Rattle.rules.specs.Candidates.{atFirst, firstSets, root, rootFrom, order, orderFrom, newcomers, before, parents, union, ancestors, ancestorsFrom, supported, pass, refined}
 use Rattle.rules.specs.Tries.{triesOf, planOf, level, firstSet, attempt, opening, siblings, skips, joinSet, lastSet, takeable, user, rowOf, after}
@@ -234,5 +234,5 @@ r =
 
 -- every bench gives what is said, and bench h has 8 partial placements
 pub all-benches : (map (λ b. run (b .0)) benches ≡ map (λ b. b .1) benches) × (map (λ b. numberAndLine (b .0)) r ≡ map (λ b. b .1) r) × (partials (figureOf hF) (patchOf hP) ≡ 8)
-unfolding run numberAndLine reader writer search triples linesOf figureOf patchOf connected verdict flatten packed layout bits word bitAt kindsHeld lineAt linesHeld kindBits lineBits plugged dead triesOf planOf cut tried level firstSet attempt opening siblings skips joinSet lastSet takeable image placed user rowOf after inMask kindFits atFirst firstSets root rootFrom order orderFrom newcomers before parents union ancestors ancestorsFrom supported pass refined partialsOf partialsUpTo placings isPartial lineKept
+unfolding run numberAndLine reader writer search triples linesOf figureOf patchOf connected verdict checked flatten packed layout bits word bitAt kindsHeld lineAt linesHeld kindBits lineBits plugged dead triesOf planOf cut tried level firstSet attempt opening siblings skips joinSet lastSet takeable image placed user rowOf after inMask kindFits atFirst firstSets root rootFrom order orderFrom newcomers before parents union ancestors ancestorsFrom supported pass refined partialsOf partialsUpTo placings isPartial lineKept
 all-benches = (refl, refl, refl)
