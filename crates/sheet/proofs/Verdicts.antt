@@ -17,7 +17,15 @@ use Rattle.laws.proofs.Lists.{split}
 use Rattle.rules.specs.Sheet.{Line, bitAt, word, field, vertexCount, lineCount, bitLength, byteLength, linesHeld}
 use Rattle.rules.specs.Checks.{Verdict, lineless, verdict, Limits, counted, cleared, lineFits, comesAfter, lineChecks, sheetVerdict}
 use Rattle.rules.proofs.Accepted.{verdict-first, verdict-rest}
-use Rattle.sheet.specs.Check.{headChecks, lineNumber}
+use Rattle.sheet.specs.Check.{verdictOf, headChecks, lineNumber}
+use Rattle.sheet.specs.declared.check.Verdict.{Verdict as Struct}
+
+-- an answer whose struct says 0, and one whose struct says another number
+pub passes : {v : Struct} {w : Verdict} → verdictOf v ≡ w → v .number ≡ 0 → w .number ≡ 0
+passes e z = sym (ap (λ x. x .number) e) ∙ z
+
+pub fails : {v : Struct} {w : Verdict} → verdictOf v ≡ w → (v .number ≡ 0 → ⊥) → w .number ≡ 0 → ⊥
+fails e f z = f (ap (λ x. x .number) e ∙ z)
 
 -- the fit of a line, test by test
 module _ (n : ℕ) (l : Line) where
