@@ -7,15 +7,15 @@ use native.Mathlib.Nat.{zero-mul, suc-mul, add-comm, mul-le-mul-right, mul-mod-l
 use native.Mathlib.Decide.{decLt}
 use native.Mathlib.Omega.{arith}
 use borrow.Author.Tests.{ltb-true, eq-eqb}
-use lib.Dec.{ltb}
+use lib.Dec.{eqb, ltb}
 use lib.ListN.{length, getD, take, drop}
 use lib.Seq.{take-take, drop-drop, length-take-le}
 use Rattle.laws.proofs.Lists.{has-out, all-out, getD-in, ordered-getD}
 use Rattle.rules.specs.Checks.{Verdict, lineless, verdict, figureLimits, patchLimits, sheetChecks}
 use Rattle.rules.specs.Place.{Figure, Patch, Place}
-use Rattle.rules.specs.Calls.{figureOf, patchOf, figureChecks, searchRefusals, Handed, Searched, Taken, search, rowsIn, found}
+use Rattle.rules.specs.Calls.{figureOf, patchOf, figureChecks, Handed, Searched, Taken, search, rowsIn, found}
 use Rattle.rules.specs.RowCheck.{rowAt, Good, Repeats, Reached, RowsTested, all-good, not-a-place, repeated, rowChecks, rowCount, RowsChecked, refused, tested, rowRefusals}
-use Rattle.rules.proofs.Accepted.{Numbered, numbered-cons, numbered-append, numbered-nil, sheet-numbered, tens, verdict-append, verdict-number, accepted-iff, figure-sheet-numbered, figure-numbered, patch-numbered, handed-connected, handed-checked}
+use Rattle.rules.proofs.Accepted.{Numbered, numbered-cons, numbered-append, numbered-nil, sheet-numbered, tens, verdict-number, accepted-iff, pair-passes, figure-iff, handed-checked}
 use Rattle.rules.proofs.Calls as calls
 use Rattle.rules.proofs.Demands as demands
 
@@ -176,11 +176,7 @@ rows-long n (suc k) l = ap suc (rows-long n k (drop n l))
 -- the checks before the rows' pass where a search was handed its sheets and the list is a whole number of rows
 passes : (figure patch memory rows : List ℕ) → Handed figure patch memory → length rows % figureOf figure .graph .size ≡ 0 → verdict (rowChecks figure patch rows) .number ≡ 0
 unfolding rowChecks verdict
-passes figure patch memory rows H whole =
-    verdict-append {ns = searchRefusals} refl (figureChecks figure) _ (figure-numbered figure) .1 (
-      verdict-append {ns = searchRefusals} refl (sheetChecks figureLimits figure) _ (figure-sheet-numbered figure) .1 (accepted-iff figureLimits figure .1 (H .figure), rw (handed-connected H)),
-      verdict-append {ns = searchRefusals} refl (sheetChecks patchLimits patch) _ (patch-numbered patch) .1 (accepted-iff patchLimits patch .1 (H .patch), rw (eq-eqb _ 0 whole)),
-    )
+passes figure patch memory rows H whole = pair-passes figure patch (eqb (length rows % figureOf figure .graph .size) 0, lineless 42) .1 (figure-iff figure .1 (H .figure, H .connected), accepted-iff patchLimits patch .1 (H .patch), rw (eq-eqb _ 0 whole))
 
 -- every list that the search returns is accepted: of any search that was taken, the rows' part of the list
 pub own-list-accepted : (figure patch memory list : List ℕ) (allowance : ℕ) → let s = search figure patch memory list allowance in Taken s → RowsChecked figure patch (take (s .rows * figureOf figure .graph .size) (s .list)) (lineless 0) 0
