@@ -9,7 +9,7 @@ use Rattle.rules.specs.Sheet.{vertexCount}
 use Rattle.rules.specs.Checks.{Verdict, lineless, Check, verdict, figureLimits, patchLimits, Accepted, sheetVerdict}
 use Rattle.rules.specs.Calls.{figureOf, figureChecks}
 use Rattle.rules.specs.RowCheck.{rowChecks}
-use Rattle.rules.proofs.Accepted.{accepted-iff, pair-figure, pair-patch, pair-last, pair-passes, figure-iff, figure-size}
+use Rattle.rules.proofs.Accepted.{accepted-iff, pair-figure, pair-patch, pair-last, pair-none, pair-passes, figure-iff, figure-size}
 
 -- a figure whose checks pass is accepted
 pub figure-accepted : (f : List ℕ) → verdict (figureChecks f) .number ≡ 0 → Accepted figureLimits f
@@ -36,13 +36,13 @@ module _ (f p rows : List ℕ) where
 
       -- then 42
       pub by-length : (length rows % n ≡ 0 → ⊥) → lineless 42 ≡ verdict (rowChecks f p rows)
-      unfolding verdict rowChecks
-      by-length h = sym (pair-last f p whole good sound ∙ rw (ne-eqb _ 0 (λ z. h (sym left-over ∙ z))))
+      unfolding rowChecks
+      by-length h = pair-last f p whole good sound (ne-eqb _ 0 (λ z. h (sym left-over ∙ z)))
 
       -- or none
       pub by-none : length rows % n ≡ 0 → lineless 0 ≡ verdict (rowChecks f p rows)
-      unfolding verdict rowChecks
-      by-none h = sym (pair-last f p whole good sound ∙ rw (eq-eqb _ 0 (left-over ∙ h)))
+      unfolding rowChecks
+      by-none h = pair-none f p whole good sound (eq-eqb _ 0 (left-over ∙ h))
 
   -- where there is none, both sheets are accepted
   pub both-accepted : verdict (rowChecks f p rows) .number ≡ 0 → Accepted figureLimits f × Accepted patchLimits p
