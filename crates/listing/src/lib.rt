@@ -4,9 +4,10 @@ ghost use lib.ListN.{length};
 ghost use Rattle.io.specs.Counts.{Counts};
 use sheet_reader::read;
 
-// 0 and the text's bytes, or the reader's number.
+// 0 and the text's bytes, or the reader's number and the line of the sheet that it is about.
 pub struct SheetText {
     pub number: u16,
+    pub line: u16,
     pub count: usize,
 }
 
@@ -131,6 +132,7 @@ pub fn text_of(sheet: &[u8], out: &mut [u8]) -> SheetText
     if held.number != 0 {
         return SheetText {
             number: held.number,
+            line: held.line,
             count: 0,
         };
     }
@@ -138,6 +140,7 @@ pub fn text_of(sheet: &[u8], out: &mut [u8]) -> SheetText
     let m = 3 * (held.lines as usize);
     SheetText {
         number: 0,
+        line: held.line,
         count: put_first_lists(out, &kinds, n, &lines, m),
     }
 }
