@@ -55,13 +55,7 @@ fn line_after(text: &[u8], kinds_taken: usize, numbers_taken: usize) -> usize {
 }
 
 // The line of the text that the writer's answer is about: that of the first kind above 63 (35), that of the line which it names, else the last.
-fn line_of(
-    text: &[u8],
-    kinds: &[u16],
-    lines: &[u16],
-    answer: WriteAnswer,
-    last: usize,
-) -> usize {
+fn line_of(text: &[u8], kinds: &[u16], lines: &[u16], answer: WriteAnswer, last: usize) -> usize {
     if answer.number == 35 {
         return line_after(text, first_wrong_kind(kinds), lines.len());
     }
