@@ -74,7 +74,7 @@ say-line-requires : tie.Need-say-line-requires
 say-line-requires c κs = search needs
 
 returns : tie.Need-returns
-returns c = known _ _ _ _ _ _ _ _ (c .before .before .before .before .before .before .before .before .before .before .before .before .before .before .find .ensures)
+returns c = known _ _ _ _ _ _ _ _ (c .before .before .before .before .before .before .before .before .before .before .before .before .before .find .ensures)
 
 pub find-and-print-spec : {M : Type 1} → statement M
 find-and-print-spec =
