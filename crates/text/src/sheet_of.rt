@@ -3,7 +3,7 @@ ghost use Prim.Native.Nat.{_≤_};
 ghost use lib.ListN.{length};
 ghost use Rattle.rules.specs.Calls.{writer};
 ghost use Rattle.io.specs.Counts.{Counts};
-ghost use Rattle.text.specs.Sheets.{Wrote};
+ghost use Rattle.text.specs.Sheets.{Wrote, Made};
 use crate::lists::lists;
 use sheet_writer::WriteAnswer;
 use sheet_writer::write;
@@ -79,7 +79,7 @@ fn written(text: &[u8], kinds: &[u16], lines: &[u16], last: usize, bytes: &mut [
 
 // The sheet of a text of up to 131,072 bytes.
 pub fn sheet_of(text: &[u8], bytes: &mut [u8]) -> TextSheet
-    ensures { λ r. ⌜ Counts (r .count) (now (bytes .exit)) ⌝ }
+    ensures { λ r. ⌜ Made r (now (bytes .entry)) (now (bytes .exit)) × Counts (r .count) (now (bytes .exit)) ⌝ }
 {
     let mut kinds = [0u16; 512];
     let mut lines = [0u16; 6144];
