@@ -28,17 +28,17 @@ counted ks ls out r out′ e h =
 
 made-of : (ks ls out : List ℕ) → let w = writer ks ls out in (w .number ≡ 0 → Accepted patchLimits (take (w .count) (w .bytes))) × ((w .number ≡ 0 → ⊥) → w .count ≡ 0) × (drop (w .count) (w .bytes) ≡ drop (w .count) out)
 made-of ks ls out = ⊎-elim
-  (λ t. (
-    λ z. rw (t .1, take-at (written (sheetOf ks ls)) (drop (length (written (sheetOf ks ls))) out) (byteLength (length ks) (length ls / 3)) (written-long (sheetOf ks ls) (t .0 .sheet) ∙ ap (byteLength (length ks)) (length-linesOf ls))) (written-accepted (sheetOf ks ls) (t .0 .sheet)),
-    λ f. absurd (f (ap (λ w. w .number) (t .1))),
-    writer-untouched ks ls out (t .0),
-  ))
-  (λ t. (
-    λ z. absurd (omega (arith, from-11 refl (t .0), ap (λ w. w .number) (t .1))),
-    λ f. ap (λ w. w .count) (t .1),
-    rw (t .1),
-  ))
-  (writer-either ks ls out)
+    (λ t. (
+      λ z. rw (t .1, take-at (written (sheetOf ks ls)) (drop (length (written (sheetOf ks ls))) out) (byteLength (length ks) (length ls / 3)) (written-long (sheetOf ks ls) (t .0 .sheet) ∙ ap (byteLength (length ks)) (length-linesOf ls))) (written-accepted (sheetOf ks ls) (t .0 .sheet)),
+      λ f. absurd (f (ap (λ w. w .number) (t .1))),
+      writer-untouched ks ls out (t .0),
+    ))
+    (λ t. (
+      λ z. absurd (omega (arith, from-11 refl (t .0), ap (λ w. w .number) (t .1))),
+      λ f. ap (λ w. w .count) (t .1),
+      rw (t .1),
+    ))
+    (writer-either ks ls out)
 
 -- what is made of lists by the writer is what a text's sheet is to be
 pub made : (ks ls out : List ℕ) (r : TextSheet) (left : List ℕ) → Wrote (writer ks ls out) r left → Made r out left
