@@ -112,6 +112,10 @@ pF = S (16 ∷ 32 ∷ []) ((0, 1) ∷ [])
 abbrev pub pG : List ℕ
 pG = S (32 ∷ 16 ∷ 17 ∷ []) ((0, 1) ∷ (0, 2) ∷ [])
 
+-- the figure of bench r whose line 1 is not after its line 0
+abbrev pub rF : List ℕ
+rF = S (1 ∷ 2 ∷ []) ((0, 1) ∷ (0, 1) ∷ [])
+
 -- bench a: the sheet is written, and read
 abbrev pub a : List (Call × List ℕ)
 a = (write (1 ∷ 2 ∷ []) (1 ∷ 0 ∷ 1 ∷ []), 0 ∷ 7 ∷ (cF ++ 4 ∷ [])) ∷ (read cF, 0 ∷ 2 ∷ 1 ∷ 1 ∷ 2 ∷ 4 ∷ 1 ∷ 0 ∷ 1 ∷ 4 ∷ []) ∷ []
@@ -217,7 +221,7 @@ r =
     ∷ (write (1 ∷ 2 ∷ []) (1 ∷ 0 ∷ 1 ∷ 3 ∷ 0 ∷ 1 ∷ []), (24, 1))
     ∷ (write (1 ∷ 2 ∷ []) (1 ∷ 0 ∷ 1 ∷ 1 ∷ 0 ∷ 1 ∷ []), (25, 1))
     ∷ (find (S (1 ∷ 2 ∷ []) ((0, 1) ∷ (0, 2) ∷ [])) cP W 2 10, (14, 1))
-    ∷ (find (S (1 ∷ 2 ∷ []) ((0, 1) ∷ (0, 1) ∷ [])) cP W 2 10, (15, 1))
+    ∷ (find rF cP W 2 10, (15, 1))
     ∷ (find cF (S (1 ∷ 2 ∷ []) ((1, 0) ∷ (0, 1) ∷ [])) W 2 10, (24, 0))
     ∷ (find cF (S (1 ∷ 2 ∷ 2 ∷ []) ((0, 2) ∷ (0, 1) ∷ [])) W 2 10, (25, 1))
     ∷ (read cF, (0, 65_535))

@@ -37,20 +37,24 @@ loop-holds c = let a = c .before .before .args in
 line-at-requires : tie.Need-line-at-requires Inv-loop μ-loop
 line-at-requires c κs = search needs
 
+add-i : tie.Need-add-i Inv-loop μ-loop
+add-i c = search needs
+
 add-at-2 : tie.Need-add-at-2 Inv-loop μ-loop
 add-at-2 c = search needs
 
 line-number-requires : tie.Need-line-number-requires Inv-loop μ-loop
 line-number-requires c κs = search needs
 
+sub-last : tie.Need-sub-last Inv-loop μ-loop
+sub-last c = search needs
+
 returns : tie.Need-returns Inv-loop μ-loop
 returns c = let a = c .before .before .before .before .before .before .before .args in
     let l = c .before .before .before .before .loop in
     let g : ℕ → Line = λ j. lineAt (a .sheet .now) (22 + 6 * a .n + 20 * j) in
-    ap (λ k. record { number = k; line = l .i }) (c .before .line-number .ensures) ∙ sym (l .inv .2 ∙ turn-refused g (a .ten) (a .n) (a .m) (l .i) (lineOf (l .before)) (lineOf (c .before .before .line-at .result)) (omega arith) (c .before .before .line-at .ensures ∙ ap (lineAt (a .sheet .now)) (l .inv .1)) (λ z. c .if1 .taken (c .before .line-number .ensures ∙ z)))
-
-add-i : tie.Need-add-i Inv-loop μ-loop
-add-i c = search needs
+    let last : l .i + 1 - 1 ≡ l .i = omega arith in
+    (λ j. record { number = c .before .line-number .ensures j; line = last j }) ∙ sym (l .inv .2 ∙ turn-refused g (a .ten) (a .n) (a .m) (l .i) (lineOf (l .before)) (lineOf (c .before .before .line-at .result)) (omega arith) (c .before .before .line-at .ensures ∙ ap (lineAt (a .sheet .now)) (l .inv .1)) (λ z. c .if1 .taken (c .before .line-number .ensures ∙ z)))
 
 loop-less : tie.Need-loop-less Inv-loop μ-loop
 loop-less c = search needs
@@ -81,10 +85,11 @@ check-lines-spec =
     add-at
     loop-holds
     line-at-requires
+    add-i
     add-at-2
     line-number-requires
+    sub-last
     returns
-    add-i
     loop-less
     loop-again
     lineless-requires
