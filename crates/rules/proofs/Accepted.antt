@@ -18,7 +18,7 @@ use Rattle.rules.specs.Checks.{Verdict, lineless, Check, verdict, Limits
 use Rattle.rules.specs.Calls.{endsOf, graphOf, figureOf, patchOf, connected, figureChecks, pairChecks, searchChecks, searchRefusals, Handed}
 use Rattle.laws.proofs.Lists.{split, has-out, keep-out, keep-ordered, all-in, all-out, upto-in, upto-out, length-map-upto}
 use Rattle.rules.proofs.Breadth.{connected-iff}
-use Rattle.rules.proofs.Verdicts.{verdict-passes, verdict-fails, verdict-none, verdict-cons, Numbered, numbered-cons, numbered-append, numbered-nil, Positive, positive-append, verdict-first, verdict-rest, verdict-append}
+use Rattle.rules.proofs.Verdicts.{verdict-passes, verdict-fails, verdict-none, verdict-passed, verdict-cons, Numbered, numbered-cons, numbered-append, numbered-nil, Positive, positive-append, verdict-first, verdict-rest, verdict-append}
 
 -- the numbers of the checks of lines and of a sheet
 pub lines-numbered : {ns : List ℕ} (ten n : ℕ) → List·Memᴰ (ten + 4) ns → List·Memᴰ (ten + 5) ns → (j : ℕ) (before : Option Line) (ls : List Line) → Numbered ns (lineChecks ten n j before ls)
@@ -142,6 +142,11 @@ module _ (L : Limits) (bytes : List ℕ) where
 pub sheet-accepted : (L : Limits) (bytes : List ℕ) → (sheetVerdict L bytes .number ≡ 0) ↔ Accepted L bytes
 unfolding sheetVerdict
 sheet-accepted L bytes = accepted-iff L bytes
+
+-- and then it names no line
+pub sheet-passed : (L : Limits) (bytes : List ℕ) → sheetVerdict L bytes .number ≡ 0 → sheetVerdict L bytes ≡ lineless 0
+unfolding sheetVerdict
+sheet-passed L bytes = verdict-passed (sheetChecks L bytes) (sheet-positive L bytes)
 
 -- lines each after the one before it are different as pairs of ends
 pairs-once : {ls : List Line} → Ordered (λ k l. comesAfter k l ≡ true) ls → Ordered _≢_ (map endsOf ls)

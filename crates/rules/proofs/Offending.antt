@@ -17,7 +17,7 @@ use Rattle.laws.proofs.Lists.{split, begun-ordered}
 use Rattle.rules.specs.Sheet.{Line, vertexCount, held}
 use Rattle.rules.specs.Checks.{Verdict, lineless, Check, verdict, Limits, figureLimits, patchLimits, lineFits, comesAfter, follows, Drawable, fitCheck, orderCheck, lineChecks, Offending, LineTold, offending, no-line, sheetChecks, sheetVerdict}
 use Rattle.rules.specs.Calls.{linesOf, readerChecks, writerChecks, figureChecks, pairChecks, LineOfTwo, of-figure, of-patch, of-neither}
-use Rattle.rules.proofs.Verdicts.{Positive, verdict-passes, verdict-fails, verdict-none, verdict-number, verdict-first, verdict-rest}
+use Rattle.rules.proofs.Verdicts.{Positive, verdict-passes, verdict-fails, verdict-none, verdict-passed, verdict-number, verdict-first, verdict-rest}
 use Rattle.rules.proofs.Accepted.{lines-numbered, lines-positive, sheet-positive, figure-positive, lines-iff}
 
 -- what holds of each answer that checks may give holds of what they answer
@@ -63,20 +63,9 @@ module _ (ten n : ℕ) where
       here : (lineFits n l ≡ false) ⊎ ((lineFits n l ≡ true) × (follows before l ≡ false)) → (j : ℕ) × Names i before (l ∷ ls) j
       here h = (0, (line-fails i before l ls h .0 ∙ omega arith, omega arith, ap (λ v. v .number) verdict-none, line-fails i before l [] h .1))
 
-  -- where none fails, none is named
-  none-out : (i : ℕ) (before : Option Line) (ls : List Line) → verdict (lineChecks ten n i before ls) .number ≡ 0 → verdict (lineChecks ten n i before ls) ≡ lineless 0
-  none-out i before [] z = verdict-none
-  none-out i before (l ∷ ls) z = elim (split (lineFits n l)) [
-    | inl e ↦ elim (split (follows before l)) [
-      | inl g ↦ line-passes i before l ls e g ∙ none-out (suc i) (some l) ls (sym (ap (λ v. v .number) (line-passes i before l ls e g)) ∙ z)
-      | inr g ↦ absurd (line-fails i before l ls (inr (e, g)) .1 z)
-    ]
-    | inr e ↦ absurd (line-fails i before l ls (inl e) .1 z)
-  ]
-
   lines-answer : (Q : Verdict → Type 0) (ls : List Line) → Q (lineless 0) → ((v : Verdict) → (v .number ≡ ten + 4) ⊎ (v .number ≡ ten + 5) → Offending n ls (v .line) → Q v) → Q (verdict (lineChecks ten n 0 none ls))
   lines-answer Q ls passed named = elim (ℕ-discrete (verdict (lineChecks ten n 0 none ls) .number) 0) [
-    | yes z ↦ rw (none-out 0 none ls z) passed
+    | yes z ↦ rw (verdict-passed (lineChecks ten n 0 none ls) (lines-positive ten n 0 none ls) z) passed
     | no f ↦
         let r = line-out 0 none ls f in
         let it : verdict (lineChecks ten n 0 none ls) .line ≡ r .0 = omega (arith, r .1 .0) in

@@ -104,6 +104,11 @@ unfolding verdict
 verdict-rest [] ds p h = refl
 verdict-rest (c ∷ cs) ds p h = elim (split (c .0)) [ inl e ↦ rw e (verdict-rest cs ds (p .1) (rw e at h)) | inr e ↦ absurd (omega (arith, p .0, rw e at h)) ]
 
+-- checks that all pass answer 0 and no line
+pub verdict-passed : (cs : List Check) → Positive cs → verdict cs .number ≡ 0 → verdict cs ≡ lineless 0
+verdict-passed [] p z = verdict-none
+verdict-passed (c ∷ cs) p z = let a = verdict-cons c cs (p .0) .0 z in verdict-passes c cs (a .0) ∙ verdict-passed cs (p .1) (a .1)
+
 pub verdict-append : (cs ds : List Check) → Positive cs → (verdict (cs ++ ds) .number ≡ 0) ↔ ((verdict cs .number ≡ 0) × (verdict ds .number ≡ 0))
 verdict-append cs ds p = (there, λ v. ap (λ w. w .number) (verdict-rest cs ds p (v .0)) ∙ v .1)
   where

@@ -1,6 +1,6 @@
 // Bit fields by bytes: a field of up to 25 bits lies in four bytes, whatever its offset.
 ghost use mathlib.Core.Path.{_≡_};
-ghost use Prim.Native.Nat.{ℕ, _+_, _*_, _/_, _≤_, _<_, _^_};
+ghost use Prim.Native.Nat.{_+_, _*_, _/_, _≤_, _<_, _^_};
 ghost use lib.ListN.{length, getD};
 ghost use Rattle.rules.specs.Sheet as rules;
 ghost use Rattle.sheet.specs.Fields.{fourBytes, lineOf};

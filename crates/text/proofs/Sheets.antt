@@ -9,7 +9,7 @@ use lib.Seq.{length-take-le, take-at}
 use Rattle.rules.specs.Sheet.{byteLength, written}
 use Rattle.rules.specs.Checks.{patchLimits, Accepted}
 use Rattle.rules.specs.Calls.{sheetOf, writer}
-use Rattle.rules.proofs.Accepted.{from-11}
+use Rattle.rules.proofs.Verdicts.{from-11}
 use Rattle.rules.proofs.RoundTrip.{written-long, written-accepted}
 use Rattle.rules.proofs.ReadWrite.{length-linesOf, writer-either, writer-untouched}
 use Rattle.sheet_writer.specs.declared.WriteAnswer.{WriteAnswer}
