@@ -5,7 +5,7 @@ use mathlib.Core.Logic.{_≢_}
 use mathlib.Core.List.{List, [], _∷_}
 use native.Mathlib.Omega.{arith}
 use lib.ListN.{length, getD, replicate, getD-replicate, length-replicate}
-use Rattle.rules.specs.Benches.{find, run, all-benches, W, cF, cP, fS, hF, hP}
+use Rattle.rules.specs.Benches.{find, run, numberAndLine, all-benches, W, bT, cF, cP, fS, hF, hP, rF}
 use Rattle.demands.specs.Calls.{Asked, Given, Meets}
 use Rattle.demands.proofs.Demands.{memory-zeroed, that-many-suffice}
 
@@ -36,6 +36,14 @@ module _ (f : Asked → Given) (meets : Meets f) where
   at-h : row (f (ask hF hP 4 100)) ≡ 0 ∷ 0 ∷ 4 ∷ 4 ∷ 4 ∷ 4 ∷ 4 ∷ []
   at-h = at-bench hF hP 4 100 _ (ap (λ l. getD l 14 []) (all-benches .0))
 
+  -- and the line beside the number
+  at-line : (figure patch : List ℕ) (n k : ℕ) (expected : ℕ × ℕ) → numberAndLine (find figure patch W n k) ≡ expected → f (ask figure patch n k) .answer .line ≡ expected .1
+  unfolding numberAndLine
+  at-line figure patch n k expected e = ap (λ s. s .line) (meets (ask figure patch n k)) ∙ ap (λ p. p .1) e
+
+  at-r : f (ask rF cP 2 10) .answer .line ≡ 1
+  at-r = at-line rF cP 2 10 _ (ap (λ l. getD l 6 (0, 0)) (all-benches .1))
+
   -- one that refuses all (bench c)
   pub refuses-all : ((a : Asked) → 10 < f a .answer .number) → ⊥
   refuses-all wrong = omega (arith, wrong (ask cF cP 6 10), entry at-c 0)
@@ -54,7 +62,7 @@ module _ (f : Asked → Given) (meets : Meets f) where
 
   -- one that answers "tries spent" early: bench h has 8 partial placements, so no allowance from 8 up is ever spent
   pub tries-spent-early : (n k : ℕ) → 8 ≤ k → f (ask hF hP n k) .answer .number ≢ 2
-  tries-spent-early n k h = that-many-suffice (ask hF hP n k) (f (ask hF hP n k)) (meets (ask hF hP n k)) (subst (λ p. p ≤ k) (sym (all-benches .1)) h)
+  tries-spent-early n k h = that-many-suffice (ask hF hP n k) (f (ask hF hP n k)) (meets (ask hF hP n k)) (subst (λ p. p ≤ k) (sym (all-benches .2)) h)
 
   -- one that invents the count of tries (bench h)
   pub invented-count : f (ask hF hP 4 100) .answer .tries ≢ 4 → ⊥
@@ -71,3 +79,19 @@ module _ (f : Asked → Given) (meets : Meets f) where
   -- one that touches the list past the rows (bench c)
   pub list-touched : getD (f (ask cF cP 6 10) .list) 4 0 ≢ 4 → ⊥
   list-touched wrong = wrong (entry at-c 7)
+
+  -- one that counts lines from 1 (bench r, line 1)
+  pub lines-from-one : f (ask rF cP 2 10) .answer .line ≡ 2 → ⊥
+  lines-from-one wrong = omega (arith, at-r)
+
+  -- one that names the first line instead of the first bad one
+  pub first-line-named : f (ask rF cP 2 10) .answer .line ≡ 0 → ⊥
+  first-line-named wrong = omega (arith, at-r)
+
+  -- one that names line 65,534 where there is none (bench c)
+  pub other-than-no-line : f (ask cF cP 6 10) .answer .line ≡ 65_534 → ⊥
+  other-than-no-line wrong = omega (arith, at-line cF cP 6 10 _ (ap (λ l. getD l 13 (0, 0)) (all-benches .1)))
+
+  -- one that names a line with 13 (bench b)
+  pub line-with-13 : f (ask bT cP 2 10) .answer .line < 65_535 → ⊥
+  line-with-13 wrong = omega (arith, at-line bT cP 2 10 _ (ap (λ l. getD l 16 (0, 0)) (all-benches .1)))

@@ -86,7 +86,7 @@ pub record RowsAsked : Type 0 where
 
 -- the contract of `check_rows` allows an answer
 abbrev pub RowsAllows : RowsAsked → Checked → Type 0
-RowsAllows a r = RowsChecked (a .figure) (a .patch) (a .rows) (r .number) (r .row)
+RowsAllows a r = RowsChecked (a .figure) (a .patch) (a .rows) (record { number = r .number; line = r .line }) (r .row)
 
 -- a function that would meet the contract of `check_rows`
 abbrev pub RowsMeets : (RowsAsked → Checked) → Type 0

@@ -14,8 +14,8 @@ use Rattle.rules.specs.Graph.{Drawn, Connected}
 use Rattle.rules.specs.Place.{Checked}
 use Rattle.rules.specs.Sheet.{Line, vertexCount, lineCount, bitLength, byteLength, bitAt, held, kindsHeld}
 use Rattle.rules.specs.Live.{live}
-use Rattle.rules.specs.Checks.{Verdict, lineless, Check, verdict, FirstToFail, fails, passes, Limits, figureLimits, patchLimits, counted, cleared, lineFits, comesAfter, follows, Drawable, lineChecks, sheetChecks, Accepted}
-use Rattle.rules.specs.Calls.{endsOf, graphOf, figureOf, patchOf, connected, figureChecks, searchChecks, searchRefusals, Handed}
+use Rattle.rules.specs.Checks.{Verdict, lineless, Check, verdict, checked, FirstToFail, fails, passes, Limits, figureLimits, patchLimits, counted, cleared, lineFits, comesAfter, follows, Drawable, lineChecks, sheetChecks, sheetVerdict, Accepted}
+use Rattle.rules.specs.Calls.{endsOf, graphOf, figureOf, patchOf, connected, figureChecks, pairChecks, searchChecks, searchRefusals, Handed}
 use Rattle.laws.proofs.Lists.{split, has-out, keep-out, keep-ordered, all-in, all-out, upto-in, upto-out, length-map-upto}
 use Rattle.rules.proofs.Breadth.{connected-iff}
 
@@ -23,6 +23,19 @@ use Rattle.rules.proofs.Breadth.{connected-iff}
 pub verdict-cons : (c : Check) (cs : List Check) → 0 < c .1 .number → (verdict (c ∷ cs) .number ≡ 0) ↔ ((c .0 ≡ true) × (verdict cs .number ≡ 0))
 unfolding verdict
 verdict-cons c cs h = elim (split (c .0)) [ inl e ↦ rw e (λ v. (refl, v), λ v. v .1) | inr e ↦ rw e (λ v. absurd (omega arith), λ v. absurd (false≢true (v .0))) ]
+
+-- a call does what it does where all its checks pass, and else refuses by what the first to fail answers
+pub checked-passes : {R : Type 0} (v : Verdict) (taken : R) (refused : Verdict → R) → v .number ≡ 0 → checked v taken refused ≡ taken
+unfolding checked
+checked-passes v taken refused e = rw e
+
+pub checked-fails : {R : Type 0} (v : Verdict) (taken : R) (refused : Verdict → R) → (v .number ≡ 0 → ⊥) → checked v taken refused ≡ refused v
+unfolding checked
+checked-fails v taken refused f = go (v .number) refl
+  where
+    go : (k : ℕ) → v .number ≡ k → checked v taken refused ≡ refused v
+    go zero e = absurd (f e)
+    go (suc k) e = rw e
 
 -- a number is given exactly where its check is the first to fail
 fail-out : (cs : List Check) (k : ℕ) → 0 < k → verdict cs .number ≡ k → FirstToFail k cs
@@ -251,6 +264,53 @@ figure-size figure = length-map-upto _ (vertexCount figure) 0
 pub handed-connected : {figure patch memory : List ℕ} → Handed figure patch memory → connected (figureOf figure) ≡ true
 handed-connected {figure} H = let D = figure-drawn figure (H .figure) in connected-iff (figureOf figure) (D .0) (D .1) .1 (H .connected)
 
+-- the checks of a figure, of a patch, and then one more
+module _ (figure patch : List ℕ) (last : Check) where
+  abbrev pair : Verdict
+  pair = verdict (pairChecks figure patch last)
+
+  -- the figure's say first
+  pub pair-figure : {v : Verdict} → v ≡ verdict (figureChecks figure) → (v .number ≡ 0 → ⊥) → v ≡ pair
+  pair-figure e f = e ∙ sym (verdict-first (figureChecks figure) _ (λ z. f (ap (λ w. w .number) e ∙ z)))
+
+  module _ (good : verdict (figureChecks figure) .number ≡ 0) where
+    past-figure : pair ≡ verdict (sheetChecks patchLimits patch ++ last ∷ [])
+    past-figure = verdict-rest (figureChecks figure) _ (numbered-positive {ns = searchRefusals} refl (figureChecks figure) (figure-numbered figure)) good
+
+    -- then the patch's
+    pub pair-patch : {v : Verdict} → v ≡ sheetVerdict patchLimits patch → (v .number ≡ 0 → ⊥) → v ≡ pair
+    unfolding sheetVerdict
+    pair-patch e f = e ∙ sym (past-figure ∙ verdict-first (sheetChecks patchLimits patch) _ (λ z. f (ap (λ w. w .number) e ∙ z)))
+
+    -- then the last
+    pub pair-last : sheetVerdict patchLimits patch .number ≡ 0 → pair ≡ verdict (last ∷ [])
+    unfolding sheetVerdict
+    pair-last sound = past-figure ∙ verdict-rest (sheetChecks patchLimits patch) _ (numbered-positive {ns = searchRefusals} refl (sheetChecks patchLimits patch) (patch-numbered patch)) sound
+
+  -- and they pass exactly where all three do
+  pub pair-passes : (pair .number ≡ 0) ↔ ((verdict (figureChecks figure) .number ≡ 0) × (verdict (sheetChecks patchLimits patch) .number ≡ 0) × (verdict (last ∷ []) .number ≡ 0))
+  pair-passes = (λ z. let a = f .0 z in let b = p .0 (a .1) in (a .0, b .0, b .1), λ h. f .1 (h .0, p .1 (h .1, h .2)))
+    where
+      p : (verdict (sheetChecks patchLimits patch ++ last ∷ []) .number ≡ 0) ↔ ((verdict (sheetChecks patchLimits patch) .number ≡ 0) × (verdict (last ∷ []) .number ≡ 0))
+      p = verdict-append {ns = searchRefusals} refl (sheetChecks patchLimits patch) (last ∷ []) (patch-numbered patch)
+
+      f : (pair .number ≡ 0) ↔ ((verdict (figureChecks figure) .number ≡ 0) × (verdict (sheetChecks patchLimits patch ++ last ∷ []) .number ≡ 0))
+      f = verdict-append {ns = searchRefusals} refl (figureChecks figure) _ (figure-numbered figure)
+
+-- a figure's checks pass exactly where its sheet is accepted and the figure is connected
+pub figure-iff : (figure : List ℕ) → (verdict (figureChecks figure) .number ≡ 0) ↔ (Accepted figureLimits figure × Connected (figureOf figure .graph))
+unfolding verdict
+figure-iff figure = (
+  λ v. let b = s .0 v in let F = accepted-iff figureLimits figure .0 (b .0) in (F, linked F .0 (verdict-cons (connected (figureOf figure), lineless 16) [] (omega arith) .0 (b .1) .0)),
+  λ h. s .1 (accepted-iff figureLimits figure .1 (h .0), rw (linked (h .0) .1 (h .1))),
+)
+  where
+    linked : Accepted figureLimits figure → (connected (figureOf figure) ≡ true) ↔ Connected (figureOf figure .graph)
+    linked A = let D = figure-drawn figure A in connected-iff (figureOf figure) (D .0) (D .1)
+
+    s : (verdict (figureChecks figure) .number ≡ 0) ↔ ((verdict (sheetChecks figureLimits figure) .number ≡ 0) × (verdict ((connected (figureOf figure), lineless 16) ∷ []) .number ≡ 0))
+    s = verdict-append {ns = searchRefusals} refl (sheetChecks figureLimits figure) _ (figure-sheet-numbered figure)
+
 module _ (figure patch memory : List ℕ) where
   pub search-numbered : Numbered searchRefusals (searchChecks figure patch memory)
   search-numbered = numbered-append (figureChecks figure) (figure-numbered figure) (numbered-append (sheetChecks patchLimits patch) (patch-numbered patch) (numbered-cons (has-out 31 _ refl) numbered-nil))
@@ -259,26 +319,12 @@ module _ (figure patch memory : List ℕ) where
   pub handed-iff : (verdict (searchChecks figure patch memory) .number ≡ 0) ↔ Handed figure patch memory
   unfolding verdict
   handed-iff = (
-    λ v. let a = f .0 v in let b = s .0 (a .0) in let c = p .0 (a .1) in let F = accepted-iff figureLimits figure .0 (b .0) in record {
-      figure = F;
-      connected = linked F .0 (verdict-cons (connected (figureOf figure), lineless 16) [] (omega arith) .0 (b .1) .0);
-      patch = accepted-iff patchLimits patch .0 (c .0);
-      memory = leb-true 22_528 _ (verdict-cons (leb 22_528 (length memory), lineless 31) [] (omega arith) .0 (c .1) .0);
-    },
-    λ H. f .1 (s .1 (accepted-iff figureLimits figure .1 (H .figure), rw (linked (H .figure) .1 (H .connected))), p .1 (accepted-iff patchLimits patch .1 (H .patch), rw (le-leb 22_528 _ (H .memory)))),
+    λ v. let h = all .0 v in let F = figure-iff figure .0 (h .0) in record { figure = F .0; connected = F .1; patch = accepted-iff patchLimits patch .0 (h .1); memory = leb-true 22_528 _ (verdict-cons (leb 22_528 (length memory), lineless 31) [] (omega arith) .0 (h .2) .0) },
+    λ H. all .1 (figure-iff figure .1 (H .figure, H .connected), accepted-iff patchLimits patch .1 (H .patch), rw (le-leb 22_528 _ (H .memory))),
   )
     where
-      linked : Accepted figureLimits figure → (connected (figureOf figure) ≡ true) ↔ Connected (figureOf figure .graph)
-      linked A = let D = figure-drawn figure A in connected-iff (figureOf figure) (D .0) (D .1)
-
-      s : (verdict (figureChecks figure) .number ≡ 0) ↔ ((verdict (sheetChecks figureLimits figure) .number ≡ 0) × (verdict ((connected (figureOf figure), lineless 16) ∷ []) .number ≡ 0))
-      s = verdict-append {ns = searchRefusals} refl (sheetChecks figureLimits figure) _ (figure-sheet-numbered figure)
-
-      p : (verdict (sheetChecks patchLimits patch ++ (leb 22_528 (length memory), lineless 31) ∷ []) .number ≡ 0) ↔ ((verdict (sheetChecks patchLimits patch) .number ≡ 0) × (verdict ((leb 22_528 (length memory), lineless 31) ∷ []) .number ≡ 0))
-      p = verdict-append {ns = searchRefusals} refl (sheetChecks patchLimits patch) _ (patch-numbered patch)
-
-      f : (verdict (searchChecks figure patch memory) .number ≡ 0) ↔ ((verdict (figureChecks figure) .number ≡ 0) × (verdict (sheetChecks patchLimits patch ++ (leb 22_528 (length memory), lineless 31) ∷ []) .number ≡ 0))
-      f = verdict-append {ns = searchRefusals} refl (figureChecks figure) _ (figure-numbered figure)
+      all : (verdict (searchChecks figure patch memory) .number ≡ 0) ↔ ((verdict (figureChecks figure) .number ≡ 0) × (verdict (sheetChecks patchLimits patch) .number ≡ 0) × (verdict ((leb 22_528 (length memory), lineless 31) ∷ []) .number ≡ 0))
+      all = pair-passes figure patch (leb 22_528 (length memory), lineless 31)
 
 -- and then the figure is what the demands ask for
 pub handed-checked : {figure patch memory : List ℕ} → Handed figure patch memory → Checked (figureOf figure)

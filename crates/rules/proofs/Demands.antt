@@ -5,20 +5,22 @@ use mathlib.Core.Logic.{_⊎_, inl, inr, _≢_, _↔_}
 use mathlib.Core.List.{List, [], _∷_, _++_, flatten, List·Memᴰ, List·Memᴰ·not-nil, List·Memᴰ·head, Memᴰ·append-left, Memᴰ·append-right}
 use mathlib.Core.Bool.{true, false}
 use native.Mathlib.Omega.{arith}
+use lib.Dec.{leb}
 use lib.ListN.{length, take, drop, replicate}
 use Rattle.laws.specs.Lists.{any, null, Begins, Ordered, nil}
-use Rattle.rules.specs.Sheet.{Bytes, byteLength}
-use Rattle.rules.specs.Checks.{Verdict, noLine, FirstToFail, verdict}
+use Rattle.rules.specs.Sheet.{Line, Bytes, vertexCount, byteLength, held}
+use Rattle.rules.specs.Checks.{Verdict, noLine, lineless, FirstToFail, verdict, Offending, LineTold, no-line}
 use Rattle.rules.specs.Place.{Figure, Patch, Placed, Place, Before, AllPlaces}
 use Rattle.rules.specs.Candidates.{orderOf, setsOf}
 use Rattle.rules.specs.Tries.{triesOf}
 use Rattle.rules.specs.Partials.{Partial, partialsOf, partials}
 use Rattle.rules.specs.Answer.{Cut, answer, allRows}
-use Rattle.rules.specs.Calls.{over, unread, reader, readerChecks, readerRefusals, ReaderHanded, unwritten, writer, writerChecks, writerRefusals, WriterHanded, figureOf, patchOf, searchChecks, searchRefusals, Handed, Searched, Taken, roomOf, answered, refused, search, found}
+use Rattle.rules.specs.Calls.{over, linesOf, unread, reader, readerChecks, readerRefusals, ReaderHanded, unwritten, writer, writerChecks, writerRefusals, WriterHanded, figureOf, patchOf, searchChecks, searchRefusals, Handed, Searched, Taken, roomOf, answered, refused, search, LineOfTwo, of-neither, found}
 use Rattle.laws.proofs.Lists.{no-member}
 use Rattle.rules.proofs.Accepted.{first-to-fail, from-11, handed-checked}
 use Rattle.rules.proofs.Partials.{partials-exactly, partials-once}
 use Rattle.rules.proofs.ReadWrite.{reader-taken, reader-either, reader-untouched, reader-writer, writer-taken, writer-either, writer-untouched, writer-reader}
+use Rattle.rules.proofs.Offending.{reader-told, writer-told, two-none, pair-told, offending-once}
 use Rattle.rules.proofs.Answers as answers
 use Rattle.rules.proofs.Calls as calls
 
@@ -53,6 +55,10 @@ module _ (figure patch memory list : List ℕ) (allowance : ℕ) where
   -- a refusal returns 0 rows and 0 tries, and writes nothing
   pub refusal-writes-nothing : List·Memᴰ (result .number) searchRefusals → result ≡ refused (record { number = result .number; line = result .line }) list memory
   refusal-writes-nothing = calls.search-cases figure patch memory list allowance (λ s. List·Memᴰ (s .number) searchRefusals → s ≡ refused (record { number = s .number; line = s .line }) list memory) (λ H m. absurd (omega (arith, from-11 {ns = searchRefusals} refl m, answers.true-reason F P (roomOf figure list) allowance .numbers))) (λ m _. refl)
+
+  -- the line beside the number is the figure's offending line with 14 and 15, the patch's with 24 and 25, and 65,535 with any other number (document 02, Wish 6)
+  pub line-named : LineOfTwo figure patch (result .number) (result .line)
+  line-named = calls.search-cases figure patch memory list allowance (λ s. LineOfTwo figure patch (s .number) (s .line)) (λ H. let n = answers.true-reason F P (roomOf figure list) allowance .numbers in of-neither (λ e. omega (arith, n)) (λ e. omega (arith, n)) (λ e. omega (arith, n)) (λ e. omega (arith, n)) refl) (λ m. pair-told figure patch (leb 22_528 (length memory), lineless 31) (two-none figure patch 31 refl refl refl refl))
 
   -- a taken call zeroes all the working memory
   pub memory-zeroed : Taken result → result .memory ≡ replicate (length memory) 0
@@ -205,6 +211,10 @@ module _ (bytes kindList lineList : List ℕ) where
   pub reader-refuses : (reader bytes kindList lineList .number ≡ 0) ⊎ ((v : Verdict) × List·Memᴰ (v .number) readerRefusals × FirstToFail (v .number) (readerChecks bytes kindList lineList) × (reader bytes kindList lineList ≡ unread v kindList lineList))
   reader-refuses = elim (reader-either bytes kindList lineList) [ inl a ↦ inl (reads-exactly .1 (a .0)) | inr a ↦ inr (verdict (readerChecks bytes kindList lineList), a .0, first-to-fail (readerChecks bytes kindList lineList) (verdict (readerChecks bytes kindList lineList) .number) (omega (arith, from-11 {ns = readerRefusals} refl (a .0))) .0 refl, a .1) ]
 
+  -- the line beside the number is the offending one with 24 and 25, and 65,535 with any other number
+  pub reader-line-named : let r = reader bytes kindList lineList in LineTold 20 (vertexCount bytes) (held bytes .lines) (r .number) (r .line)
+  reader-line-named = elim (reader-either bytes kindList lineList) [ inl a ↦ rw (a .1) (no-line (λ e. omega arith) (λ e. omega arith) refl) | inr a ↦ rw (a .1) (reader-told bytes kindList lineList) ]
+
   -- it changes only the first n and 3m numbers
   pub reader-changes-only : let r = reader bytes kindList lineList in (drop (r .vertices) (r .kindList) ≡ drop (r .vertices) kindList) × (drop (3 * r .lines) (r .lineList) ≡ drop (3 * r .lines) lineList)
   reader-changes-only = elim (reader-either bytes kindList lineList) [ inl a ↦ reader-untouched bytes kindList lineList (a .0) | inr a ↦ rw (a .1) (refl, refl) ]
@@ -219,9 +229,17 @@ module _ (kindList lineList bytes : List ℕ) where
   pub writer-refuses : (writer kindList lineList bytes .number ≡ 0) ⊎ ((v : Verdict) × List·Memᴰ (v .number) writerRefusals × FirstToFail (v .number) (writerChecks kindList lineList bytes) × (writer kindList lineList bytes ≡ unwritten v bytes))
   writer-refuses = elim (writer-either kindList lineList bytes) [ inl a ↦ inl (writes-exactly .1 (a .0)) | inr a ↦ inr (verdict (writerChecks kindList lineList bytes), a .0, first-to-fail (writerChecks kindList lineList bytes) (verdict (writerChecks kindList lineList bytes) .number) (omega (arith, from-11 {ns = writerRefusals} refl (a .0))) .0 refl, a .1) ]
 
+  -- the line beside the number is the offending one with 24 and 25, and 65,535 with any other number
+  pub writer-line-named : let w = writer kindList lineList bytes in LineTold 20 (length kindList) (linesOf lineList) (w .number) (w .line)
+  writer-line-named = elim (writer-either kindList lineList bytes) [ inl a ↦ rw (a .1) (no-line (λ e. omega arith) (λ e. omega arith) refl) | inr a ↦ rw (a .1) (writer-told kindList lineList bytes) ]
+
   -- it changes only the bytes that it counts
   pub writer-changes-only : let w = writer kindList lineList bytes in drop (w .count) (w .bytes) ≡ drop (w .count) bytes
   writer-changes-only = elim (writer-either kindList lineList bytes) [ inl a ↦ writer-untouched kindList lineList bytes (a .0) | inr a ↦ rw (a .1) ]
+
+-- Lines have one offending line, or none.
+pub one-offending-line : (n : ℕ) (lines : List Line) (i j : ℕ) → Offending n lines i → Offending n lines j → i ≡ j
+one-offending-line = offending-once
 
 -- DEMAND 2. A sheet that was read, written again, is the same bytes.
 pub read-then-written : (bytes kindList lineList out : List ℕ) → Bytes bytes → length bytes ≤ length out → let r = reader bytes kindList lineList in r .number ≡ 0 → writer (take (r .vertices) (r .kindList)) (take (3 * r .lines) (r .lineList)) out ≡ record { number = 0; line = noLine; count = length bytes; bytes = over bytes out }

@@ -29,5 +29,6 @@ pub mod Answers
 pub mod Calls
 pub mod RoundTrip
 pub mod ReadWrite
+pub mod Offending
 pub mod Demands
 pub mod RowCheck

@@ -15,7 +15,7 @@ use Rattle.rules.specs.Sheet.{Line, Sheet, Bytes, vertexCount, lineCount
 use Rattle.rules.specs.Checks.{Verdict, noLine, lineless, Check, verdict, patchLimits, counted, lineChecks, sheetChecks, Accepted}
 use Rattle.rules.specs.Calls.{over, triples, linesOf, whenRead, unread, readerChecks, readerRefusals, ReaderHanded, reader, whenWritten, unwritten, sheetOf, Writable, writerChecks, writerRefusals, WriterHanded, writer}
 use Rattle.laws.proofs.Lists.{has-out, all-in, all-out, length-map-upto}
-use Rattle.rules.proofs.Accepted.{Numbered, numbered-cons, numbered-append, numbered-nil, tens, from-11, verdict-number, verdict-cons, verdict-append, lines-numbered, sheet-numbered, counted-iff, lines-iff, accepted-iff}
+use Rattle.rules.proofs.Accepted.{Numbered, numbered-cons, numbered-append, numbered-nil, tens, checked-passes, checked-fails, from-11, verdict-number, verdict-cons, verdict-append, lines-numbered, sheet-numbered, counted-iff, lines-iff, accepted-iff}
 use Rattle.rules.proofs.Fields.{bitAt-lt, word-lt}
 use Rattle.rules.proofs.RoundTrip.{read-written, count-back, written-read, written-long, written-accepted}
 
@@ -64,19 +64,15 @@ module _ (bytes ks ls : List ℕ) where
 
   pub reader-taken : ReaderHanded bytes ks ls → reader bytes ks ls ≡ whenRead bytes ks ls
   unfolding reader
-  reader-taken H = rw (reader, reader-iff .1 H)
+  reader-taken H = checked-passes first _ _ (reader-iff .1 H)
 
   -- the reader reads what it is rightly handed, and refuses all else by one of its numbers, changing nothing
   pub reader-either : (ReaderHanded bytes ks ls × (reader bytes ks ls ≡ whenRead bytes ks ls)) ⊎ (List·Memᴰ (first .number) readerRefusals × (reader bytes ks ls ≡ unread first ks ls))
   unfolding reader
-  reader-either = elim (verdict-number _ numbered) [ inl v ↦ inl (reader-iff .0 v, reader-taken (reader-iff .0 v)) | inr v ↦ inr (v, back _ refl (from-11 {ns = readerRefusals} refl v)) ]
+  reader-either = elim (verdict-number _ numbered) [ inl v ↦ inl (reader-iff .0 v, reader-taken (reader-iff .0 v)) | inr v ↦ inr (v, checked-fails first _ _ (λ z. omega (arith, from-11 {ns = readerRefusals} refl v))) ]
     where
       numbered : Numbered readerRefusals (readerChecks bytes ks ls)
       numbered = numbered-append (sheetChecks patchLimits bytes) (reader-sheet-numbered bytes) (numbered-cons (has-out 33 _ refl) numbered-nil)
-
-      back : (k : ℕ) → first .number ≡ k → 10 < k → reader bytes ks ls ≡ unread first ks ls
-      back zero e h = absurd (omega arith)
-      back (suc k) e h = rw (reader, e)
 
 -- the writer
 module _ (ks ls bytes : List ℕ) where
@@ -114,19 +110,15 @@ module _ (ks ls bytes : List ℕ) where
 
   pub writer-taken : WriterHanded ks ls bytes → writer ks ls bytes ≡ whenWritten ks ls bytes
   unfolding writer
-  writer-taken H = rw (writer, writer-iff .1 H)
+  writer-taken H = checked-passes fails _ _ (writer-iff .1 H)
 
   -- the writer writes what it is rightly handed, and refuses all else by one of its numbers, changing nothing
   pub writer-either : (WriterHanded ks ls bytes × (writer ks ls bytes ≡ whenWritten ks ls bytes)) ⊎ (List·Memᴰ (fails .number) writerRefusals × (writer ks ls bytes ≡ unwritten fails bytes))
   unfolding writer
-  writer-either = elim (verdict-number _ numbered) [ inl v ↦ inl (writer-iff .0 v, writer-taken (writer-iff .0 v)) | inr v ↦ inr (v, back _ refl (from-11 {ns = writerRefusals} refl v)) ]
+  writer-either = elim (verdict-number _ numbered) [ inl v ↦ inl (writer-iff .0 v, writer-taken (writer-iff .0 v)) | inr v ↦ inr (v, checked-fails fails _ _ (λ z. omega (arith, from-11 {ns = writerRefusals} refl v))) ]
     where
       numbered : Numbered writerRefusals (writerChecks ks ls bytes)
       numbered = numbered-cons (has-out 34 _ refl) (numbered-cons (has-out 22 _ refl) (numbered-cons (has-out 35 _ refl) (numbered-append onLines (lines-numbered 20 (length ks) (has-out 24 _ refl) (has-out 25 _ refl) 0 none (linesOf ls)) (numbered-cons (has-out 33 _ refl) numbered-nil))))
-
-      back : (k : ℕ) → fails .number ≡ k → 10 < k → writer ks ls bytes ≡ unwritten fails bytes
-      back zero e h = absurd (omega arith)
-      back (suc k) e h = rw (writer, e)
 
 -- what is read from an accepted sheet may be written
 held-writable : (bytes : List ℕ) → Accepted patchLimits bytes → Writable (held bytes)

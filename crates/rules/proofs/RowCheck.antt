@@ -2,20 +2,22 @@
 use Prim.Native.Nat.{ℕ, zero, suc, _+_, _*_, _%_, _≤_, _<_}
 use mathlib.Core.Path.{_≡_, refl, ap, sym, subst, _∙_}
 use mathlib.Core.Logic.{_≢_, _⊎_, inl, inr, _↔_}
+use mathlib.Core.Bool.{false}
 use mathlib.Core.List.{List, [], _∷_, List·Memᴰ, Memᴰ·cast, Memᴰ·append-left}
 use native.Mathlib.Nat.{zero-mul, suc-mul, add-comm, mul-le-mul-right, mul-mod-left, mul-div-cancel}
 use native.Mathlib.Decide.{decLt}
 use native.Mathlib.Omega.{arith}
 use borrow.Author.Tests.{ltb-true, eq-eqb}
-use lib.Dec.{ltb}
+use lib.Dec.{eqb, ltb}
 use lib.ListN.{length, getD, take, drop}
 use lib.Seq.{take-take, drop-drop, length-take-le}
 use Rattle.laws.proofs.Lists.{has-out, all-out, getD-in, ordered-getD}
-use Rattle.rules.specs.Checks.{Verdict, lineless, verdict, figureLimits, patchLimits, sheetChecks}
+use Rattle.rules.specs.Checks.{Verdict, noLine, lineless, verdict, figureLimits, patchLimits, sheetChecks}
 use Rattle.rules.specs.Place.{Figure, Patch, Place}
-use Rattle.rules.specs.Calls.{figureOf, patchOf, figureChecks, searchRefusals, Handed, Searched, Taken, search, rowsIn, found}
+use Rattle.rules.specs.Calls.{figureOf, patchOf, figureChecks, Handed, Searched, Taken, search, LineOfTwo, rowsIn, found}
 use Rattle.rules.specs.RowCheck.{rowAt, Good, Repeats, Reached, RowsTested, all-good, not-a-place, repeated, rowChecks, rowCount, RowsChecked, refused, tested, rowRefusals}
-use Rattle.rules.proofs.Accepted.{Numbered, numbered-cons, numbered-append, numbered-nil, sheet-numbered, tens, verdict-append, verdict-number, accepted-iff, figure-sheet-numbered, figure-numbered, patch-numbered, handed-connected, handed-checked}
+use Rattle.rules.proofs.Accepted.{Numbered, numbered-cons, numbered-append, numbered-nil, sheet-numbered, tens, verdict-number, accepted-iff, pair-passes, figure-iff, handed-checked}
+use Rattle.rules.proofs.Offending.{two-none, pair-told}
 use Rattle.rules.proofs.Calls as calls
 use Rattle.rules.proofs.Demands as demands
 
@@ -141,6 +143,20 @@ module _ (figure patch rows : List ℕ) where
         go (tested p l (not-a-place q R un)) = inr (Memᴰ·cast q (has-out 43 rowRefusals refl))
         go (tested p l (repeated q R s′ r)) = inr (Memᴰ·cast q (has-out 44 rowRefusals refl))
 
+    -- the line beside the number is the figure's offending line with 14 and 15, the patch's with 24 and 25, and 65,535 with any other number
+    pub row-line-named : LineOfTwo figure patch (v .number) (v .line)
+    unfolding rowChecks
+    row-line-named = go answer
+      where
+        none : (k : ℕ) → eqb k 14 ≡ false → eqb k 15 ≡ false → eqb k 24 ≡ false → eqb k 25 ≡ false → v .number ≡ k → v .line ≡ noLine → LineOfTwo figure patch (v .number) (v .line)
+        none k a b c d e l = rw (e, l) (two-none figure patch k a b c d)
+
+        go : RowsChecked figure patch rows v i → LineOfTwo figure patch (v .number) (v .line)
+        go (refused a b c) = rw b (pair-told figure patch _ (two-none figure patch 42 refl refl refl refl))
+        go (tested p l (all-good z r G)) = none 0 refl refl refl refl z l
+        go (tested p l (not-a-place q R un)) = none 43 refl refl refl refl q l
+        go (tested p l (repeated q R s′ r)) = none 44 refl refl refl refl q l
+
     -- in every answer but 43 and 44 the row is 0
     pub row-zero : v .number ≢ 43 → v .number ≢ 44 → i ≡ 0
     row-zero = go answer
@@ -176,11 +192,7 @@ rows-long n (suc k) l = ap suc (rows-long n k (drop n l))
 -- the checks before the rows' pass where a search was handed its sheets and the list is a whole number of rows
 passes : (figure patch memory rows : List ℕ) → Handed figure patch memory → length rows % figureOf figure .graph .size ≡ 0 → verdict (rowChecks figure patch rows) .number ≡ 0
 unfolding rowChecks verdict
-passes figure patch memory rows H whole =
-    verdict-append {ns = searchRefusals} refl (figureChecks figure) _ (figure-numbered figure) .1 (
-      verdict-append {ns = searchRefusals} refl (sheetChecks figureLimits figure) _ (figure-sheet-numbered figure) .1 (accepted-iff figureLimits figure .1 (H .figure), rw (handed-connected H)),
-      verdict-append {ns = searchRefusals} refl (sheetChecks patchLimits patch) _ (patch-numbered patch) .1 (accepted-iff patchLimits patch .1 (H .patch), rw (eq-eqb _ 0 whole)),
-    )
+passes figure patch memory rows H whole = pair-passes figure patch (eqb (length rows % figureOf figure .graph .size) 0, lineless 42) .1 (figure-iff figure .1 (H .figure, H .connected), accepted-iff patchLimits patch .1 (H .patch), rw (eq-eqb _ 0 whole))
 
 -- every list that the search returns is accepted: of any search that was taken, the rows' part of the list
 pub own-list-accepted : (figure patch memory list : List ℕ) (allowance : ℕ) → let s = search figure patch memory list allowance in Taken s → RowsChecked figure patch (take (s .rows * figureOf figure .graph .size) (s .list)) (lineless 0) 0

@@ -6,7 +6,7 @@ use lib.ListN.{replicate}
 use Rattle.laws.specs.Masks.{inMask}
 use Rattle.rules.specs.Sheet.{panel, cable, normalled, written, packed, layout, bits, word, bitAt, kindsHeld, lineAt, linesHeld, kindBits, lineBits}
 use Rattle.rules.specs.Live.{plugged, dead}
-use Rattle.rules.specs.Checks.{verdict}
+use Rattle.rules.specs.Checks.{verdict, checked}
 use Rattle.rules.specs.Place.{kindFits, image, placed}
 use Rattle.rules.specs.Candidates.{atFirst, firstSets, root, rootFrom, order, orderFrom, newcomers, before, parents, union, ancestors, ancestorsFrom, supported, pass, refined}
 use Rattle.rules.specs.Tries.{triesOf, planOf, level, firstSet, attempt, opening, siblings, skips, joinSet, lastSet, takeable, user, rowOf, after}
@@ -111,6 +111,10 @@ pF = S (16 ∷ 32 ∷ []) ((0, 1) ∷ [])
 -- the figure of bench p with two lines at one jack
 abbrev pub pG : List ℕ
 pG = S (32 ∷ 16 ∷ 17 ∷ []) ((0, 1) ∷ (0, 2) ∷ [])
+
+-- the figure of bench r whose line 1 is not after its line 0
+abbrev pub rF : List ℕ
+rF = S (1 ∷ 2 ∷ []) ((0, 1) ∷ (0, 1) ∷ [])
 
 -- bench a: the sheet is written, and read
 abbrev pub a : List (Call × List ℕ)
@@ -217,7 +221,7 @@ r =
     ∷ (write (1 ∷ 2 ∷ []) (1 ∷ 0 ∷ 1 ∷ 3 ∷ 0 ∷ 1 ∷ []), (24, 1))
     ∷ (write (1 ∷ 2 ∷ []) (1 ∷ 0 ∷ 1 ∷ 1 ∷ 0 ∷ 1 ∷ []), (25, 1))
     ∷ (find (S (1 ∷ 2 ∷ []) ((0, 1) ∷ (0, 2) ∷ [])) cP W 2 10, (14, 1))
-    ∷ (find (S (1 ∷ 2 ∷ []) ((0, 1) ∷ (0, 1) ∷ [])) cP W 2 10, (15, 1))
+    ∷ (find rF cP W 2 10, (15, 1))
     ∷ (find cF (S (1 ∷ 2 ∷ []) ((1, 0) ∷ (0, 1) ∷ [])) W 2 10, (24, 0))
     ∷ (find cF (S (1 ∷ 2 ∷ 2 ∷ []) ((0, 2) ∷ (0, 1) ∷ [])) W 2 10, (25, 1))
     ∷ (read cF, (0, 65_535))
@@ -234,5 +238,5 @@ r =
 
 -- every bench gives what is said, and bench h has 8 partial placements
 pub all-benches : (map (λ b. run (b .0)) benches ≡ map (λ b. b .1) benches) × (map (λ b. numberAndLine (b .0)) r ≡ map (λ b. b .1) r) × (partials (figureOf hF) (patchOf hP) ≡ 8)
-unfolding run numberAndLine reader writer search triples linesOf figureOf patchOf connected verdict flatten packed layout bits word bitAt kindsHeld lineAt linesHeld kindBits lineBits plugged dead triesOf planOf cut tried level firstSet attempt opening siblings skips joinSet lastSet takeable image placed user rowOf after inMask kindFits atFirst firstSets root rootFrom order orderFrom newcomers before parents union ancestors ancestorsFrom supported pass refined partialsOf partialsUpTo placings isPartial lineKept
+unfolding run numberAndLine reader writer search triples linesOf figureOf patchOf connected verdict checked flatten packed layout bits word bitAt kindsHeld lineAt linesHeld kindBits lineBits plugged dead triesOf planOf cut tried level firstSet attempt opening siblings skips joinSet lastSet takeable image placed user rowOf after inMask kindFits atFirst firstSets root rootFrom order orderFrom newcomers before parents union ancestors ancestorsFrom supported pass refined partialsOf partialsUpTo placings isPartial lineKept
 all-benches = (refl, refl, refl)

@@ -33,7 +33,7 @@ verdict [] = lineless 0
 verdict (c ∷ cs) = cond (c .0) (verdict cs) (c .1)
 
 -- a call after its checks: what it does where all pass, or its refusal by what the first to fail answers
-abbrev pub checked : {R : Type 0} → Verdict → R → (Verdict → R) → R
+unfoldable pub checked : {R : Type 0} → Verdict → R → (Verdict → R) → R
 checked v taken refused = elim (v .number) [ zero ↦ taken | suc k ↦ refused v ]
 
 -- a check of a number fails after checks that all pass

@@ -2,12 +2,12 @@
 use Prim.Native.Nat.{ℕ, _*_, _/_, _%_, _<_}
 use mathlib.Core.Path.{_≡_}
 use mathlib.Core.Logic.{_≢_}
-use mathlib.Core.List.{List, [], _∷_, _++_}
+use mathlib.Core.List.{List, [], _∷_}
 use lib.Dec.{eqb}
 use lib.ListN.{length, take, drop}
 use Rattle.rules.specs.Place.{PatchVertex, Figure, Patch, Place}
-use Rattle.rules.specs.Checks.{Verdict, noLine, lineless, Check, verdict, patchLimits, sheetChecks}
-use Rattle.rules.specs.Calls.{figureOf, patchOf, figureChecks}
+use Rattle.rules.specs.Checks.{Verdict, noLine, lineless, Check, verdict}
+use Rattle.rules.specs.Calls.{figureOf, patchOf, pairChecks}
 
 -- row i, counted from 0, of a list of rows of n entries each
 unfoldable pub rowAt : ℕ → List ℕ → ℕ → List PatchVertex
@@ -38,7 +38,7 @@ pub data RowsTested (F : Figure) (P : Patch) (rows : List ℕ) (k number row : �
 
 -- the checks before the rows': the figure's, the patch's, then 42 where the list is not a whole number of rows
 unfoldable pub rowChecks : (figure patch rows : List ℕ) → List Check
-rowChecks figure patch rows = figureChecks figure ++ (sheetChecks patchLimits patch ++ (eqb (length rows % figureOf figure .graph .size) 0, lineless 42) ∷ [])
+rowChecks figure patch rows = pairChecks figure patch (eqb (length rows % figureOf figure .graph .size) 0, lineless 42)
 
 -- how many rows a list has for a figure
 abbrev pub rowCount : (figure rows : List ℕ) → ℕ

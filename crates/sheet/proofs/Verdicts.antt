@@ -1,6 +1,6 @@
 -- What the first check to fail answers, part by part: of the checks before the lines, of one line, and of lines one after the other.
 use Prim.Native.Nat.{ℕ, zero, suc, _+_, _*_, _-_, _^_, _≤_, _<_}
-use mathlib.Core.Path.{_≡_, refl, sym, _∙_}
+use mathlib.Core.Path.{_≡_, refl, ap, sym, _∙_}
 use mathlib.Core.Logic.{inl, inr}
 use mathlib.Core.List.{List, [], _∷_, map}
 use mathlib.Core.Bool.{true, false, and-false, false≢true}
@@ -17,7 +17,15 @@ use Rattle.laws.proofs.Lists.{split}
 use Rattle.rules.specs.Sheet.{Line, bitAt, word, field, vertexCount, lineCount, bitLength, byteLength, linesHeld}
 use Rattle.rules.specs.Checks.{Verdict, lineless, verdict, Limits, counted, cleared, lineFits, comesAfter, lineChecks, sheetVerdict}
 use Rattle.rules.proofs.Accepted.{verdict-first, verdict-rest}
-use Rattle.sheet.specs.Check.{headChecks, lineNumber}
+use Rattle.sheet.specs.Check.{verdictOf, headChecks, lineNumber}
+use Rattle.sheet.specs.declared.check.Verdict.{Verdict as Struct}
+
+-- an answer whose struct says 0, and one whose struct says another number
+pub passes : {v : Struct} {w : Verdict} → verdictOf v ≡ w → v .number ≡ 0 → w .number ≡ 0
+passes e z = sym (ap (λ x. x .number) e) ∙ z
+
+pub fails : {v : Struct} {w : Verdict} → verdictOf v ≡ w → (v .number ≡ 0 → ⊥) → w .number ≡ 0 → ⊥
+fails e f z = f (ap (λ x. x .number) e ∙ z)
 
 -- the fit of a line, test by test
 module _ (n : ℕ) (l : Line) where
@@ -127,10 +135,10 @@ module _ (g : ℕ → Line) (ten n m : ℕ) where
   turns-begin k e = let z : m - 0 ≡ m = omega arith in rw (e, z) (from-nought ten n (map g (upto m 0)))
 
   pub turn-refused : (i : ℕ) (k l : Line) → i < m → l ≡ g i → (lineNumber ten n k l ≡ 0 → ⊥) → from i k ≡ record { number = lineNumber ten n k l; line = i }
-  turn-refused i k l h e f = rw (upto-step i h, sym e) (line-refused ten n k l i _ f)
+  turn-refused i k l h e f = rw (upto-step i h, sym e) (line-refused ten n k l i (map g (upto (m - (i + 1)) (i + 1))) f)
 
   pub turn-passed : (i : ℕ) (k l : Line) → i < m → l ≡ g i → lineNumber ten n k l ≡ 0 → from i k ≡ from (i + 1) l
-  turn-passed i k l h e z = let f : suc i ≡ i + 1 = omega arith in rw (upto-step i h, sym e) (rw f at (line-passed ten n k l i (map g (upto (m - (i + 1)) (i + 1))) z))
+  turn-passed i k l h e z = let f : suc i ≡ i + 1 = omega arith in rw (upto-step i h, sym e) (line-passed ten n k l i (map g (upto (m - (i + 1)) (i + 1))) z ∙ ap (λ j. verdict (lineChecks ten n j (some l) (map g (upto (m - (i + 1)) (i + 1))))) f)
 
   pub turns-over : (i : ℕ) (k : Line) → m ≤ i → from i k ≡ lineless 0
   unfolding verdict

@@ -89,13 +89,14 @@ fn check_lines(sheet: &[u8], n: u16, m: u16, ten: u16) -> Verdict
     let mut i = 0;
     while i < m {
         let line = line_at(sheet, at);
+        i += 1;
         at += 20;
         let number = line_number(before, line, n, ten);
         if number != 0 {
-            return Verdict { number, line: i };
+            let last = i - 1;
+            return Verdict { number, line: last };
         }
         before = line;
-        i += 1;
     }
     lineless(0)
 }

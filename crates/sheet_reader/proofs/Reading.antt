@@ -8,54 +8,50 @@ use borrow.Author.Tests.{lt-leb}
 use lib.Dec.{leb}
 use lib.ListN.{length}
 use Rattle.rules.specs.Sheet.{vertexCount, lineCount, kindsHeld, linesHeld}
-use Rattle.rules.specs.Checks.{Check, verdict, patchLimits, sheetChecks, sheetVerdict}
-use Rattle.rules.specs.Calls.{over, triples, readerChecks, readerRefusals, reader}
-use Rattle.rules.proofs.Accepted.{accepted-iff, verdict-first, verdict-rest, numbered-positive}
+use Rattle.rules.specs.Checks.{Verdict, noLine, lineless, Check, verdict, patchLimits, sheetChecks, sheetVerdict}
+use Rattle.rules.specs.Calls.{over, triples, readerChecks, readerRefusals, whenRead, reader}
+use Rattle.rules.proofs.Accepted.{accepted-iff, checked-fails, verdict-first, verdict-rest, numbered-positive}
 use Rattle.rules.proofs.ReadWrite.{reader-taken, reader-sheet-numbered}
 use Rattle.sheet_reader.specs.declared.ReadAnswer.{ReadAnswer}
 use Rattle.sheet_reader.specs.Answers.{asRead}
 
 module _ (bytes ks ls : List ℕ) where
   abbrev space : Check
-  space = (leb (vertexCount bytes) (length ks) && leb (3 * lineCount bytes) (length ls), 33)
-
-  reader-refused : (k : ℕ) → verdict (readerChecks bytes ks ls) ≡ k → (k ≡ 0 → ⊥) → reader bytes ks ls ≡ record { number = k; vertices = 0; lines = 0; kindList = ks; lineList = ls }
-  unfolding reader
-  reader-refused zero e f = absurd (f refl)
-  reader-refused (suc k) e f = rw (reader, e)
+  space = (leb (vertexCount bytes) (length ks) && leb (3 * lineCount bytes) (length ls), lineless 33)
 
   -- an answer with no counts
-  module _ (r : ReadAnswer) (k : ℕ) (h : (r .number ≡ k) × (r .vertices ≡ 0) × (r .lines ≡ 0)) where
-    refused : verdict (readerChecks bytes ks ls) ≡ k → (k ≡ 0 → ⊥) → asRead r ks ls ≡ reader bytes ks ls
-    refused e f = (λ i. record { number = h .0 i; vertices = h .1 i; lines = h .2 i; kindList = ks; lineList = ls }) ∙ sym (reader-refused k e f)
+  module _ (r : ReadAnswer) (v : Verdict) (h : (r .number ≡ v .number) × (r .line ≡ v .line) × (r .vertices ≡ 0) × (r .lines ≡ 0)) where
+    refused : verdict (readerChecks bytes ks ls) ≡ v → (v .number ≡ 0 → ⊥) → asRead r ks ls ≡ reader bytes ks ls
+    unfolding reader
+    refused e f = (λ i. record { number = h .0 i; line = h .1 i; vertices = h .2 i; lines = h .3 i; kindList = ks; lineList = ls }) ∙ sym (rw e (checked-fails v _ _ f))
 
-    pub by-sheet : k ≡ sheetVerdict patchLimits bytes → (k ≡ 0 → ⊥) → asRead r ks ls ≡ reader bytes ks ls
+    pub by-sheet : v ≡ sheetVerdict patchLimits bytes → (v .number ≡ 0 → ⊥) → asRead r ks ls ≡ reader bytes ks ls
     unfolding sheetVerdict
-    by-sheet e f = refused (verdict-first (sheetChecks patchLimits bytes) (space ∷ []) (λ z. f (e ∙ z)) ∙ sym e) f
+    by-sheet e f = refused (verdict-first (sheetChecks patchLimits bytes) (space ∷ []) (λ z. f (ap (λ w. w .number) e ∙ z)) ∙ sym e) f
 
-  module _ (good : sheetVerdict patchLimits bytes ≡ 0) where
+  module _ (good : sheetVerdict patchLimits bytes .number ≡ 0) where
     spaced : verdict (readerChecks bytes ks ls) ≡ verdict (space ∷ [])
     unfolding sheetVerdict
     spaced = verdict-rest (sheetChecks patchLimits bytes) (space ∷ []) (numbered-positive {ns = readerRefusals} refl (sheetChecks patchLimits bytes) (reader-sheet-numbered bytes)) good
 
-    module _ (r : ReadAnswer) (h : (r .number ≡ 33) × (r .vertices ≡ 0) × (r .lines ≡ 0)) where
+    module _ (r : ReadAnswer) (v : Verdict) (w : v ≡ lineless 33) (h : (r .number ≡ v .number) × (r .line ≡ v .line) × (r .vertices ≡ 0) × (r .lines ≡ 0)) where
       pub by-kinds : length ks < vertexCount bytes → asRead r ks ls ≡ reader bytes ks ls
       unfolding verdict
-      by-kinds l = refused r 33 h (spaced ∙ rw (lt-leb (vertexCount bytes) (length ks) l)) (λ z. omega arith)
+      by-kinds l = refused r v h (spaced ∙ rw (lt-leb (vertexCount bytes) (length ks) l) (sym w)) (λ z. omega (arith, ap (λ x. x .number) w))
 
       pub by-lines : length ls < 3 * lineCount bytes → asRead r ks ls ≡ reader bytes ks ls
       unfolding verdict
-      by-lines l = refused r 33 h (spaced ∙ rw (lt-leb (3 * lineCount bytes) (length ls) l, and-false)) (λ z. omega arith)
+      by-lines l = refused r v h (spaced ∙ rw (lt-leb (3 * lineCount bytes) (length ls) l, and-false) (sym w)) (λ z. omega (arith, ap (λ x. x .number) w))
 
-    pub taken : vertexCount bytes ≤ length ks → 3 * lineCount bytes ≤ length ls → reader bytes ks ls ≡ record { number = 0; vertices = vertexCount bytes; lines = lineCount bytes; kindList = over (kindsHeld bytes (vertexCount bytes)) ks; lineList = over (triples (linesHeld bytes (vertexCount bytes) (lineCount bytes))) ls }
+    pub taken : vertexCount bytes ≤ length ks → 3 * lineCount bytes ≤ length ls → reader bytes ks ls ≡ whenRead bytes ks ls
     unfolding sheetVerdict
     taken n m = reader-taken bytes ks ls (record { sheet = accepted-iff patchLimits bytes .0 good; kinds = n; lines = m })
 
     -- what the two lists are written with, by the counts as they were read
-    pub by-counts : (r : ReadAnswer) (ks′ ls′ : List ℕ) → r .number ≡ 0 → (r .vertices ≡ vertexCount bytes) × (r .lines ≡ lineCount bytes) → r .vertices ≤ length ks → 3 * r .lines ≤ length ls → ks′ ≡ over (kindsHeld bytes (r .vertices)) ks → ls′ ≡ over (triples (linesHeld bytes (r .vertices) (r .lines))) ls → asRead r ks′ ls′ ≡ reader bytes ks ls
-    by-counts r ks′ ls′ z e h k p q =
+    pub by-counts : (r : ReadAnswer) (ks′ ls′ : List ℕ) → r .number ≡ 0 → r .line ≡ noLine → (r .vertices ≡ vertexCount bytes) × (r .lines ≡ lineCount bytes) → r .vertices ≤ length ks → 3 * r .lines ≤ length ls → ks′ ≡ over (kindsHeld bytes (r .vertices)) ks → ls′ ≡ over (triples (linesHeld bytes (r .vertices) (r .lines))) ls → asRead r ks′ ls′ ≡ reader bytes ks ls
+    by-counts r ks′ ls′ z o e h k p q =
         let a = e .0 in
         let b = e .1 in
         let kinds : ks′ ≡ over (kindsHeld bytes (vertexCount bytes)) ks = p ∙ ap (λ n. over (kindsHeld bytes n) ks) a in
         let lines : ls′ ≡ over (triples (linesHeld bytes (vertexCount bytes) (lineCount bytes))) ls = q ∙ ap₂ (λ n m. over (triples (linesHeld bytes n m)) ls) a b in
-        (λ i. record { number = z i; vertices = a i; lines = b i; kindList = kinds i; lineList = lines i }) ∙ sym (taken (omega arith) (omega arith))
+        (λ i. record { number = z i; line = o i; vertices = a i; lines = b i; kindList = kinds i; lineList = lines i }) ∙ sym (taken (omega arith) (omega arith))

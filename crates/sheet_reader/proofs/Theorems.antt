@@ -16,7 +16,7 @@ module _ (sheet ks ls : List ℕ) (r : ReadAnswer) (ks′ ls′ : List ℕ) (e :
   pub read-once : (q : ReadAnswer) (kq lq : List ℕ) → asRead q kq lq ≡ reader sheet ks ls → (r ≡ q) × (ks′ ≡ kq) × (ls′ ≡ lq)
   read-once q kq lq f =
       let g = e ∙ sym f in
-      (λ i. record { number = g i .number; vertices = g i .vertices; lines = g i .lines }, ap (λ t. t .kindList) g, ap (λ t. t .lineList) g)
+      (λ i. record { number = g i .number; line = g i .line; vertices = g i .vertices; lines = g i .lines }, ap (λ t. t .kindList) g, ap (λ t. t .lineList) g)
 
   -- a refusal returns zero counts and changes nothing
   pub read-refused : (r .number ≡ 0 → ⊥) → (r .vertices ≡ 0) × (r .lines ≡ 0) × (ks′ ≡ ks) × (ls′ ≡ ls)

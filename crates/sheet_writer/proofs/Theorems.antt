@@ -22,7 +22,7 @@ module _ (sheet ks ls : List ℕ) (r : ReadAnswer) (ks′ ls′ : List ℕ) (e :
 module _ (ks ls out : List ℕ) (r : WriteAnswer) (out′ : List ℕ) (e : asWritten r out′ ≡ writer ks ls out) where
   -- another result that the contract allows
   pub write-once : (q : WriteAnswer) (oq : List ℕ) → asWritten q oq ≡ writer ks ls out → (r ≡ q) × (out′ ≡ oq)
-  write-once q oq f = let g = e ∙ sym f in (λ i. record { number = g i .number; count = g i .count }, ap (λ t. t .bytes) g)
+  write-once q oq f = let g = e ∙ sym f in (λ i. record { number = g i .number; line = g i .line; count = g i .count }, ap (λ t. t .bytes) g)
 
   -- a refusal returns a zero count and changes nothing
   pub write-refused : (r .number ≡ 0 → ⊥) → (r .count ≡ 0) × (out′ ≡ out)

@@ -13,9 +13,9 @@ use lib.ListN.{length, getD, drop}
 use Rattle.laws.specs.Lists.{all}
 use Rattle.laws.proofs.Lists.{has-out, map-upto, length-map-upto, getD-in}
 use Rattle.rules.specs.Sheet.{Sheet, word, bits, kindBits, lineBits, layout, packed, bitLength, byteLength, written}
-use Rattle.rules.specs.Checks.{Check, verdict, patchLimits, counted, lineChecks}
+use Rattle.rules.specs.Checks.{Verdict, noLine, lineless, Check, verdict, patchLimits, counted, lineChecks}
 use Rattle.rules.specs.Calls.{over, linesOf, sheetOf, writerChecks, writerRefusals, WriterHanded, writer}
-use Rattle.rules.proofs.Accepted.{from-11, verdict-cons, verdict-first, verdict-rest, numbered-positive, counted-iff, lines-numbered}
+use Rattle.rules.proofs.Accepted.{checked-fails, from-11, verdict-cons, verdict-first, verdict-rest, numbered-positive, counted-iff, lines-numbered}
 use Rattle.rules.proofs.Fields.{word-same, length-bits}
 use Rattle.rules.proofs.RoundTrip.{length-layout}
 use Rattle.rules.proofs.ReadWrite.{length-linesOf, writer-taken, writer-either}
@@ -30,75 +30,72 @@ use Rattle.sheet_writer.proofs.Lines.{line-among}
 
 -- the checks on the two lists, one after the other
 module _ (ks ls : List ℕ) where
-  pub lists-threes : (length ls % 3 ≡ 0 → ⊥) → verdict (listChecks ks ls) ≡ 34
+  pub lists-threes : (length ls % 3 ≡ 0 → ⊥) → verdict (listChecks ks ls) ≡ lineless 34
   unfolding verdict
   lists-threes h = rw (ne-eqb (length ls % 3) 0 h)
 
   module _ (a : length ls % 3 ≡ 0) where
-    lists-uncounted : counted patchLimits (length ks) (length ls / 3) ≡ false → verdict (listChecks ks ls) ≡ 22
+    lists-uncounted : counted patchLimits (length ks) (length ls / 3) ≡ false → verdict (listChecks ks ls) ≡ lineless 22
     unfolding verdict
     lists-uncounted e = rw (eq-eqb (length ls % 3) 0 a, e)
 
-    pub lists-none : length ks ≡ 0 → verdict (listChecks ks ls) ≡ 22
+    pub lists-none : length ks ≡ 0 → verdict (listChecks ks ls) ≡ lineless 22
     lists-none e = lists-uncounted (rw e)
 
-    pub lists-vertices : 512 < length ks → verdict (listChecks ks ls) ≡ 22
+    pub lists-vertices : 512 < length ks → verdict (listChecks ks ls) ≡ lineless 22
     lists-vertices h = lists-uncounted (rw (lt-leb (length ks) 512 h, and-false))
 
-    pub lists-lines : 2_048 < length ls / 3 → verdict (listChecks ks ls) ≡ 22
+    pub lists-lines : 2_048 < length ls / 3 → verdict (listChecks ks ls) ≡ lineless 22
     lists-lines h = lists-uncounted (rw (lt-leb (length ls / 3) 2_048 h, and-false, and-false))
 
     module _ (b : (length ks ≡ 0 → ⊥) × (length ks ≤ 512) × (length ls / 3 ≤ 2_048)) where
       lists-counted : counted patchLimits (length ks) (length ls / 3) ≡ true
       lists-counted = rw (le-leb 1 (length ks) (omega arith), le-leb (length ks) 512 (b .1), le-leb (length ls / 3) 2_048 (b .2))
 
-      pub lists-kinds : all (λ k. leb k 63) ks ≡ false → verdict (listChecks ks ls) ≡ 35
+      pub lists-kinds : all (λ k. leb k 63) ks ≡ false → verdict (listChecks ks ls) ≡ lineless 35
       unfolding verdict
       lists-kinds e = rw (eq-eqb (length ls % 3) 0 a, lists-counted, e)
 
-      pub lists-drawn : all (λ k. leb k 63) ks ≡ true → verdict (listChecks ks ls) ≡ verdict (lineChecks 20 (length ks) none (linesOf ls))
+      pub lists-drawn : all (λ k. leb k 63) ks ≡ true → verdict (listChecks ks ls) ≡ verdict (lineChecks 20 (length ks) 0 none (linesOf ls))
       unfolding verdict
       lists-drawn e = rw (eq-eqb (length ls % 3) 0 a, lists-counted, e)
 
   -- lists that pass are within the limits
-  pub lists-small : verdict (listChecks ks ls) ≡ 0 → (length ks ≤ 512) × (length ls / 3 ≤ 2_048)
+  pub lists-small : verdict (listChecks ks ls) .number ≡ 0 → (length ks ≤ 512) × (length ls / 3 ≤ 2_048)
   lists-small z =
-      let a = verdict-cons (eqb (length ls % 3) 0, 34) _ (omega arith) .0 z in
-      let b = verdict-cons (counted patchLimits (length ks) (length ls / 3), 22) _ (omega arith) .0 (a .1) in
+      let a = verdict-cons (eqb (length ls % 3) 0, lineless 34) _ (omega arith) .0 z in
+      let b = verdict-cons (counted patchLimits (length ks) (length ls / 3), lineless 22) _ (omega arith) .0 (a .1) in
       let t = counted-iff patchLimits (length ks) (length ls / 3) .0 (b .0) in
       (t .1, t .2)
 
 -- the writer's answer, by the first of its checks to fail
 module _ (ks ls bytes : List ℕ) where
   abbrev room : Check
-  room = (leb (byteLength (length ks) (length ls / 3)) (length bytes), 33)
+  room = (leb (byteLength (length ks) (length ls / 3)) (length bytes), lineless 33)
 
-  writer-refused : (k : ℕ) → verdict (writerChecks ks ls bytes) ≡ k → (k ≡ 0 → ⊥) → writer ks ls bytes ≡ record { number = k; count = 0; bytes = bytes }
-  unfolding writer
-  writer-refused zero e f = absurd (f refl)
-  writer-refused (suc k) e f = rw (writer, e)
+  -- an answer with no count
+  module _ (r : WriteAnswer) (v : Verdict) (h : (r .number ≡ v .number) × (r .line ≡ v .line) × (r .count ≡ 0)) where
+    refused : verdict (writerChecks ks ls bytes) ≡ v → (v .number ≡ 0 → ⊥) → asWritten r bytes ≡ writer ks ls bytes
+    unfolding writer
+    refused e f = (λ i. record { number = h .0 i; line = h .1 i; count = h .2 i; bytes = bytes }) ∙ sym (rw e (checked-fails v _ _ f))
 
-  module _ (r : WriteAnswer) (k : ℕ) (h : (r .number ≡ k) × (r .count ≡ 0)) where
-    refused : verdict (writerChecks ks ls bytes) ≡ k → (k ≡ 0 → ⊥) → asWritten r bytes ≡ writer ks ls bytes
-    refused e f = (λ i. record { number = h .0 i; count = h .1 i; bytes = bytes }) ∙ sym (writer-refused k e f)
+    pub by-lists : v ≡ verdict (listChecks ks ls) → (v .number ≡ 0 → ⊥) → asWritten r bytes ≡ writer ks ls bytes
+    by-lists e f = refused (verdict-first (listChecks ks ls) (room ∷ []) (λ z. f (ap (λ w. w .number) e ∙ z)) ∙ sym e) f
 
-    pub by-lists : k ≡ verdict (listChecks ks ls) → (k ≡ 0 → ⊥) → asWritten r bytes ≡ writer ks ls bytes
-    by-lists e f = refused (verdict-first (listChecks ks ls) (room ∷ []) (λ z. f (e ∙ z)) ∙ sym e) f
-
-  module _ (good : verdict (listChecks ks ls) ≡ 0) where
+  module _ (good : verdict (listChecks ks ls) .number ≡ 0) where
     roomed : verdict (writerChecks ks ls bytes) ≡ verdict (room ∷ [])
-    roomed = verdict-rest (listChecks ks ls) (room ∷ []) (omega arith, (omega arith, (omega arith, numbered-positive {ns = writerRefusals} refl (lineChecks 20 (length ks) none (linesOf ls)) (lines-numbered 20 (length ks) (has-out 24 _ refl) (has-out 25 _ refl) none (linesOf ls))))) good
+    roomed = verdict-rest (listChecks ks ls) (room ∷ []) (omega arith, (omega arith, (omega arith, numbered-positive {ns = writerRefusals} refl (lineChecks 20 (length ks) 0 none (linesOf ls)) (lines-numbered 20 (length ks) (has-out 24 _ refl) (has-out 25 _ refl) 0 none (linesOf ls))))) good
 
-    pub by-room : (r : WriteAnswer) → (r .number ≡ 33) × (r .count ≡ 0) → length bytes < byteLength (length ks) (length ls / 3) → asWritten r bytes ≡ writer ks ls bytes
+    pub by-room : (r : WriteAnswer) (v : Verdict) → v ≡ lineless 33 → (r .number ≡ v .number) × (r .line ≡ v .line) × (r .count ≡ 0) → length bytes < byteLength (length ks) (length ls / 3) → asWritten r bytes ≡ writer ks ls bytes
     unfolding verdict
-    by-room r h l = refused r 33 h (roomed ∙ rw (lt-leb (byteLength (length ks) (length ls / 3)) (length bytes) l)) (λ z. omega arith)
+    by-room r v w h l = refused r v h (roomed ∙ rw (lt-leb (byteLength (length ks) (length ls / 3)) (length bytes) l) (sym w)) (λ z. omega (arith, ap (λ x. x .number) w))
 
     module _ (l : byteLength (length ks) (length ls / 3) ≤ length bytes) where
       handed : WriterHanded ks ls bytes
       unfolding verdict
       handed =
-          let z : verdict (room ∷ []) ≡ 0 = rw (le-leb (byteLength (length ks) (length ls / 3)) (length bytes) l) in
-          ⊎-elim (λ t. t .0) (λ t. absurd (omega (arith, from-11 {ns = writerRefusals} refl (t .0), roomed, z))) (writer-either ks ls bytes)
+          let z : verdict (room ∷ []) .number ≡ 0 = rw (le-leb (byteLength (length ks) (length ls / 3)) (length bytes) l) in
+          ⊎-elim (λ t. t .0) (λ t. absurd (omega (arith, from-11 {ns = writerRefusals} refl (t .0), ap (λ v. v .number) roomed, z))) (writer-either ks ls bytes)
 
       pub kinds-fit : KindsFit ks
       kinds-fit i h = handed .sheet .kinds (getD ks i 0) (getD-in 0 ks i h)
@@ -106,8 +103,8 @@ module _ (ks ls bytes : List ℕ) where
       pub lines-fit : LinesFit ls
       lines-fit j h = let t = handed .sheet .drawn .fit (lineIn ls j) (line-among ls j h) in omega (arith, t, handed .sheet .vertices)
 
-      pub by-bytes : (r : WriteAnswer) (bytes′ : List ℕ) → r .number ≡ 0 → r .count ≡ byteLength (length ks) (length ls / 3) → bytes′ ≡ over (written (sheetOf ks ls)) bytes → asWritten r bytes′ ≡ writer ks ls bytes
-      by-bytes r bytes′ z e f = (λ i. record { number = z i; count = e i; bytes = f i }) ∙ sym (writer-taken ks ls bytes handed)
+      pub by-bytes : (r : WriteAnswer) (bytes′ : List ℕ) → r .number ≡ 0 → r .line ≡ noLine → r .count ≡ byteLength (length ks) (length ls / 3) → bytes′ ≡ over (written (sheetOf ks ls)) bytes → asWritten r bytes′ ≡ writer ks ls bytes
+      by-bytes r bytes′ z o e f = (λ i. record { number = z i; line = o i; count = e i; bytes = f i }) ∙ sym (writer-taken ks ls bytes handed)
 
 -- a pen before the first bit
 abbrev pub start : Pen

@@ -67,10 +67,8 @@ fn check_line_list(lines: &[u16], n: u16) -> Verdict
         let line = line_in(lines, j);
         let number = line_number(before, line, n, 20);
         if number != 0 {
-            return Verdict {
-                number,
-                line: j as u16,
-            };
+            let at = j as u16;
+            return Verdict { number, line: at };
         }
         before = line;
         j += 1;

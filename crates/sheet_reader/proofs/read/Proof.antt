@@ -2,6 +2,8 @@
 use mathlib.Core.Path.{refl}
 use native.Mathlib.Omega.{arith}
 use borrow.Author.Needs.{needs}
+use Rattle.sheet.specs.Check.{verdictOf}
+use Rattle.sheet.proofs.Verdicts.{passes}
 use Rattle.sheet.proofs.Words.{field-lt}
 use Rattle.sheet_reader.proofs.Reading.{by-sheet, by-kinds, by-lines, by-counts}
 use Rattle.sheet_reader.proofs.read.Statement.{statement}
@@ -14,7 +16,7 @@ unread-requires : tie.Need-unread-requires
 unread-requires c κs = search needs
 
 returns : tie.Need-returns
-returns c = let a = c .before .before .before .before .before .before .before .args in by-sheet (a .sheet .now) (a .kinds .now) (a .lines .now) (c .unread .result) _ (c .unread .ensures) (c .before .before .before .check-patch .ensures) (λ z. omega arith)
+returns c = let a = c .before .before .before .before .before .before .before .args in by-sheet (a .sheet .now) (a .kinds .now) (a .lines .now) (c .unread .result) (verdictOf (c .before .before .before .check-patch .result)) (c .unread .ensures) (c .before .before .before .check-patch .ensures) (λ z. omega arith)
 
 counts-requires : tie.Need-counts-requires
 counts-requires c κs = search needs
@@ -25,20 +27,26 @@ cast-n c = search needs
 cast-m : tie.Need-cast-m
 cast-m c = search needs
 
+lineless-requires : tie.Need-lineless-requires
+lineless-requires c κs = search needs
+
 unread-requires-2 : tie.Need-unread-requires-2
 unread-requires-2 c κs = search needs
 
 returns-2 : tie.Need-returns-2
-returns-2 c = let a = c .before .before .before .before .before .before .before .before .before .before .before .args in by-kinds (a .sheet .now) (a .kinds .now) (a .lines .now) (omega arith) (c .unread2 .result) (c .unread2 .ensures) (omega arith)
+returns-2 c = let a = c .before .before .before .before .before .before .before .before .before .before .before .before .args in by-kinds (a .sheet .now) (a .kinds .now) (a .lines .now) (passes (c .before .before .before .before .before .before .before .before .check-patch .ensures) (c .before .before .before .before .before .before .if1 .left)) (c .unread2 .result) (verdictOf (c .before .lineless .result)) (c .before .lineless .ensures) (c .unread2 .ensures) (omega arith)
 
 mul-if3 : tie.Need-mul-if3
 mul-if3 c = search needs
+
+lineless-requires-2 : tie.Need-lineless-requires-2
+lineless-requires-2 c κs = search needs
 
 unread-requires-3 : tie.Need-unread-requires-3
 unread-requires-3 c κs = search needs
 
 returns-3 : tie.Need-returns-3
-returns-3 c = let a = c .before .before .before .before .before .before .before .before .before .before .before .before .args in by-lines (a .sheet .now) (a .kinds .now) (a .lines .now) (omega arith) (c .unread3 .result) (c .unread3 .ensures) (omega arith)
+returns-3 c = let a = c .before .before .before .before .before .before .before .before .before .before .before .before .before .args in by-lines (a .sheet .now) (a .kinds .now) (a .lines .now) (passes (c .before .before .before .before .before .before .before .before .before .check-patch .ensures) (c .before .before .before .before .before .before .before .if1 .left)) (c .unread3 .result) (verdictOf (c .before .lineless2 .result)) (c .before .lineless2 .ensures) (c .unread3 .ensures) (omega arith)
 
 read-kinds-requires : tie.Need-read-kinds-requires
 read-kinds-requires c κs = omega (arith, c .before .before .before .before .before .counts .ensures, field-lt (c .before .before .before .before .before .before .before .before .before .before .before .before .args .sheet .now) 0 10)
@@ -53,7 +61,7 @@ same-length-2 : tie.Need-same-length-2
 same-length-2 c = search needs
 
 returns-4 : tie.Need-returns-4
-returns-4 c = let a = c .before .before .before .before .before .before .before .before .before .before .before .before .before .before .before .before .before .before .before .args in by-counts (a .sheet .now) (a .kinds .now) (a .lines .now) (omega arith) _ _ _ refl (c .before .before .before .before .before .before .before .before .before .before .before .before .counts .ensures) (omega arith) (omega arith) (c .before .before .before .before .before .before .read-kinds .ensures) (c .before .before .read-lines .ensures)
+returns-4 c = let a = c .before .before .before .before .before .before .before .before .before .before .before .before .before .before .before .before .before .before .before .args in by-counts (a .sheet .now) (a .kinds .now) (a .lines .now) (passes (c .before .before .before .before .before .before .before .before .before .before .before .before .before .before .before .check-patch .ensures) (c .before .before .before .before .before .before .before .before .before .before .before .before .before .if1 .left)) _ _ _ refl refl (c .before .before .before .before .before .before .before .before .before .before .before .before .counts .ensures) (omega arith) (omega arith) (c .before .before .before .before .before .before .read-kinds .ensures) (c .before .before .read-lines .ensures)
 
 pub read-spec : {M : Type 1} → statement M
 read-spec =
@@ -65,9 +73,11 @@ read-spec =
     counts-requires
     cast-n
     cast-m
+    lineless-requires
     unread-requires-2
     returns-2
     mul-if3
+    lineless-requires-2
     unread-requires-3
     returns-3
     read-kinds-requires

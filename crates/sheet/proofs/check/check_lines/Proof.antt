@@ -46,11 +46,15 @@ add-at-2 c = search needs
 line-number-requires : tie.Need-line-number-requires Inv-loop μ-loop
 line-number-requires c κs = search needs
 
+sub-last : tie.Need-sub-last Inv-loop μ-loop
+sub-last c = search needs
+
 returns : tie.Need-returns Inv-loop μ-loop
 returns c = let a = c .before .before .before .before .before .before .before .args in
     let l = c .before .before .before .before .loop in
     let g : ℕ → Line = λ j. lineAt (a .sheet .now) (22 + 6 * a .n + 20 * j) in
-    c .before .line-number .ensures ∙ sym (l .inv .2 ∙ turn-refused g (a .ten) (a .n) (a .m) (l .i) (lineOf (l .before)) (lineOf (c .before .before .line-at .result)) (omega arith) (c .before .before .line-at .ensures ∙ ap (lineAt (a .sheet .now)) (l .inv .1)) (λ z. c .if1 .taken (c .before .line-number .ensures ∙ z)))
+    let last : l .i + 1 - 1 ≡ l .i = omega arith in
+    (λ j. record { number = c .before .line-number .ensures j; line = last j }) ∙ sym (l .inv .2 ∙ turn-refused g (a .ten) (a .n) (a .m) (l .i) (lineOf (l .before)) (lineOf (c .before .before .line-at .result)) (omega arith) (c .before .before .line-at .ensures ∙ ap (lineAt (a .sheet .now)) (l .inv .1)) (λ z. c .if1 .taken (c .before .line-number .ensures ∙ z)))
 
 loop-less : tie.Need-loop-less Inv-loop μ-loop
 loop-less c = search needs
@@ -61,11 +65,14 @@ loop-again c = let a = c .before .before .before .before .before .before .before
     let g : ℕ → Line = λ j. lineAt (a .sheet .now) (22 + 6 * a .n + 20 * j) in
     (omega arith, omega arith, l .inv .2 ∙ turn-passed g (a .ten) (a .n) (a .m) (l .i) (lineOf (l .before)) (lineOf (c .before .before .line-at .result)) (omega arith) (c .before .before .line-at .ensures ∙ ap (lineAt (a .sheet .now)) (l .inv .1)) (sym (c .before .line-number .ensures) ∙ c .if1 .left))
 
+lineless-requires : tie.Need-lineless-requires Inv-loop μ-loop
+lineless-requires c κs = search needs
+
 returns-2 : tie.Need-returns-2 Inv-loop μ-loop
-returns-2 c = let a = c .before .before .before .before .args in
-    let l = c .before .loop in
+returns-2 c = let a = c .before .before .before .before .before .args in
+    let l = c .before .before .loop in
     let g : ℕ → Line = λ j. lineAt (a .sheet .now) (22 + 6 * a .n + 20 * j) in
-    sym (l .inv .2 ∙ turns-over g (a .ten) (a .n) (a .m) (l .i) (lineOf (l .before)) (omega arith))
+    c .lineless .ensures ∙ sym (l .inv .2 ∙ turns-over g (a .ten) (a .n) (a .m) (l .i) (lineOf (l .before)) (omega arith))
 
 pub check-lines-spec : {M : Type 1} → statement M
 check-lines-spec =
@@ -81,7 +88,9 @@ check-lines-spec =
     add-i
     add-at-2
     line-number-requires
+    sub-last
     returns
     loop-less
     loop-again
+    lineless-requires
     returns-2)
