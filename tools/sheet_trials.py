@@ -1,5 +1,5 @@
 #!/usr/bin/env python3
-"""What crates/sheet_trials must print, worked out from document 01 alone.
+"""What crates/sheet_trials must print, worked out from document 01 and Wish 6 of document 02 alone.
 
 usage: sheet_trials.py > crates/sheet_trials/stdout
 
@@ -12,6 +12,7 @@ sheets are drawn and damaged, and the digest.
 FIGURE = (32, 64, 10)
 PATCH = (512, 2048, 20)
 MODULUS = 2147483647
+NO_LINE = 65535
 
 
 # ---- document 01, "The sheet"
@@ -44,67 +45,68 @@ def put_together(kinds, lines):
     return [int(s[i:i + 8], 2) for i in range(0, len(s), 8)]
 
 
-# ---- document 01, "Numbers that come back"
+# ---- document 01, "Numbers that come back", each with the number of the line that it is about (document 02, Wish 6)
 
 def line_trouble(lines, n, ten):
-    """14 or 15 (24 or 25) of the first line in trouble, 14 before 15 on one line; 0 where none is."""
+    """14 or 15 (24 or 25) and the first line in trouble, 14 before 15 on one line; 0 where none is."""
     latest = None
-    for t, a, b in lines:
+    for at, (t, a, b) in enumerate(lines):
         if t > 2 or not (a < n and b < n) or not a < b:
-            return ten + 4
+            return ten + 4, at
         if latest is not None and not latest < (a, b):
-            return ten + 5
+            return ten + 5, at
         latest = (a, b)
-    return 0
+    return 0, NO_LINE
 
 
 def check(sheet, table):
+    """The number and the line."""
     most_vertices, most_lines, ten = table
     if len(sheet) < 3:
-        return ten + 1
+        return ten + 1, NO_LINE
     head = bits_of(sheet[:3])
     n, m = number(head[:10]), number(head[10:22])
     if not (1 <= n <= most_vertices and m <= most_lines):
-        return ten + 2
+        return ten + 2, NO_LINE
     if len(sheet) != -(-(22 + 6 * n + 20 * m) // 8):
-        return ten + 1
+        return ten + 1, NO_LINE
     n, m, kinds, lines, filling = take_apart(sheet)
     if "1" in filling:
-        return ten + 3
+        return ten + 3, NO_LINE
     return line_trouble(lines, n, ten)
 
 
 def reader(sheet, kinds, lines):
-    """The number and the counts; the two lists are changed in place."""
-    trouble = check(sheet, PATCH)
+    """The number, the line and the counts; the two lists are changed in place."""
+    trouble, at = check(sheet, PATCH)
     if trouble:
-        return trouble, 0, 0
+        return trouble, at, 0, 0
     n, m, ks, ls, _ = take_apart(sheet)
     if len(kinds) < n or len(lines) < 3 * m:
-        return 33, 0, 0
+        return 33, NO_LINE, 0, 0
     kinds[:n] = ks
     lines[:3 * m] = [x for line in ls for x in line]
-    return 0, n, m
+    return 0, NO_LINE, n, m
 
 
 def writer(kinds, lines, out):
-    """The number and the byte count; the bytes are changed in place."""
+    """The number, the line and the byte count; the bytes are changed in place."""
     if len(lines) % 3:
-        return 34, 0
+        return 34, NO_LINE, 0
     n, m = len(kinds), len(lines) // 3
     if not (1 <= n <= 512 and m <= 2048):
-        return 22, 0
+        return 22, NO_LINE, 0
     if max(kinds) > 63:
-        return 35, 0
+        return 35, NO_LINE, 0
     threes = [tuple(lines[i:i + 3]) for i in range(0, len(lines), 3)]
-    trouble = line_trouble(threes, n, 20)
+    trouble, at = line_trouble(threes, n, 20)
     if trouble:
-        return trouble, 0
+        return trouble, at, 0
     sheet = put_together(kinds, threes)
     if len(out) < len(sheet):
-        return 33, 0
+        return 33, NO_LINE, 0
     out[:len(sheet)] = sheet
-    return 0, len(sheet)
+    return 0, NO_LINE, len(sheet)
 
 
 # ---- which sheets are tried, and the digest
@@ -134,9 +136,9 @@ class Part:
         print(" ".join([str(self.digest)] + [f"{k}:{c}" for k, c in sorted(self.counts.items())]))
 
     def write(self, kinds, lines, out):
-        k, count = writer(kinds, lines, out)
+        k, at, count = writer(kinds, lines, out)
         self.note(k)
-        self.mix(k, count, *out)
+        self.mix(k, at, count, *out)
 
     def trial(self, sheet, k=40, l=200):
         small = len(sheet) <= 128
@@ -144,11 +146,11 @@ class Part:
         lines = [7002] * (l if small else 6200)
         out = [171] * (128 if small else 5520)
         f, p = check(sheet, FIGURE), check(sheet, PATCH)
-        r, n, m = reader(sheet, kinds, lines)
+        *r, n, m = reader(sheet, kinds, lines)
         for x in (f, p, r):
-            self.note(x)
-        self.mix(f, p, r, n, m, *kinds, *lines)
-        if r == 0:
+            self.note(x[0])
+        self.mix(*f, *p, *r, n, m, *kinds, *lines)
+        if r[0] == 0:
             self.write(kinds[:n], lines[:3 * m], out)
 
     def flips(self, sheet, skip=0):
@@ -208,7 +210,7 @@ def drawn():
         kinds, seed = draw_list(20, following(seed), 64)
         lines, seed = draw_lines(40, n, seed)
         sheet = [0] * 128
-        _, count = writer(kinds[:n], lines, sheet)
+        _, _, count = writer(kinds[:n], lines, sheet)
         sheet = sheet[:count]
         part.trial(sheet)
         part.flips(sheet)
@@ -264,7 +266,7 @@ def large():
     kinds, seed = draw_list(512, following(15), 64)
     lines, seed = draw_lines(2048, 512, seed)
     sheet = [0] * 5507
-    k, _ = writer(kinds, lines, sheet)
+    k, _, _ = writer(kinds, lines, sheet)
     part.note(k)
     part.trial(sheet)
     part.flips(sheet, 330)

@@ -1,11 +1,13 @@
 """Sheets and texts for the commands for people: the proved programs built and started, text told from sheets, kinds in words.
 
 Not proved, only tested (.ci/examples). What a text or a sheet says is never worked out here: the
-programs text_to_sheet and sheet_to_text do that, over the proved reader and writer.
+programs text_to_sheet and sheet_to_text do that, over the proved reader and writer. The one thing
+that no program says is what stands on the line for which a sheet is refused; `Line` has its words.
 """
 import functools
 import os
 import platform
+import re
 import subprocess
 import sys
 
@@ -114,13 +116,44 @@ def sheet_bytes(path):
     return sheet
 
 
+class Line:
+    """A line of a sheet whose length is right, by its number from 0; as words, what the sheet's text would say."""
+
+    def __init__(self, sheet, number):
+        bits = "".join(f"{byte:08b}" for byte in sheet)
+        self.sheet, self.number, self.vertices = sheet, number, int(bits[:10], 2)
+        at = 22 + 6 * self.vertices + 20 * number
+        self.type, self.first, self.second = (int(bits[at + a:at + b], 2) for a, b in ((0, 2), (2, 11), (11, 20)))
+
+    def __str__(self):
+        if self.type == 3:
+            return f"of type 3 with ends {self.first} and {self.second}"
+        return f"{('panel', 'cable', 'normalled')[self.type]} {self.first} {self.second}"
+
+    @property
+    def before(self):
+        return Line(self.sheet, self.number - 1)
+
+
+def text_of(sheet):
+    """A sheet's text; refused with the program's message and, where that names a line, what stands there."""
+    text, message = run("sheet_to_text", sheet)
+    if text:
+        return text
+    message = message.strip()
+    named = re.match(r"(24|25): line (\d+) of the sheet,", message)
+    if named:
+        line = Line(sheet, int(named[2]))
+        beside = f"the vertex count is {line.vertices}" if named[1] == "24" else f"the one before it is {line.before}"
+        message += f"; it is {line}, and {beside}"
+    raise Refused(message)
+
+
 class Sheet:
     """The kinds, and the lines as (type in words, first, second)."""
 
     def __init__(self, sheet):
-        text, message = run("sheet_to_text", sheet)
-        if not text:
-            raise Refused(message.strip())
+        text = text_of(sheet)
         self.kinds, self.lines = [], []
         for line in text.decode().splitlines():
             head, *rest = line.split()

@@ -1,12 +1,15 @@
 // The text form of a sheet (docs/TEXT.md), written: the two lists that the proved reader gives, into lent bytes, one item a line.
 ghost use Prim.Native.Nat.{_≤_};
 ghost use lib.ListN.{length};
+ghost use mathlib.Core.Path.{_≡_};
+ghost use Rattle.rules.specs.Checks.{patchLimits, sheetVerdict};
 ghost use Rattle.io.specs.Counts.{Counts};
 use sheet_reader::read;
 
-// 0 and the text's bytes, or the reader's number.
+// 0 and the text's bytes, or the reader's number and the line of the sheet that it is about.
 pub struct SheetText {
     pub number: u16,
+    pub line: u16,
     pub count: usize,
 }
 
@@ -123,7 +126,7 @@ fn put_first_lists(out: &mut [u8], kinds: &[u16], n: usize, lines: &[u16], m: us
 
 // The text of a sheet within patch limits: at most 47,616 bytes.
 pub fn text_of(sheet: &[u8], out: &mut [u8]) -> SheetText
-    ensures { λ r. ⌜ Counts (r .count) (now (out .exit)) ⌝ }
+    ensures { λ r. ⌜ (r .number ≡ sheetVerdict patchLimits (now (sheet .entry)) .number) × (r .line ≡ sheetVerdict patchLimits (now (sheet .entry)) .line) × Counts (r .count) (now (out .exit)) ⌝ }
 {
     let mut kinds = [0u16; 512];
     let mut lines = [0u16; 6144];
@@ -131,6 +134,7 @@ pub fn text_of(sheet: &[u8], out: &mut [u8]) -> SheetText
     if held.number != 0 {
         return SheetText {
             number: held.number,
+            line: held.line,
             count: 0,
         };
     }
@@ -138,6 +142,7 @@ pub fn text_of(sheet: &[u8], out: &mut [u8]) -> SheetText
     let m = 3 * (held.lines as usize);
     SheetText {
         number: 0,
+        line: held.line,
         count: put_first_lists(out, &kinds, n, &lines, m),
     }
 }

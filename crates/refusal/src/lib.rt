@@ -1,4 +1,4 @@
-// A refusal in words, on standard error: the line of the text where there is one, the number, and what it means. Numbers from 71 on are of the text alone (docs/TEXT.md), the others document 01's.
+// A refusal in words, on standard error: the number, what it means, and the line that it is about, of a text counted from 1, of a sheet from 0. Numbers from 71 on are of the text alone (docs/TEXT.md), the others document 01's.
 ghost use mathlib.Core.Path.{_≡_};
 use libc::STDERR_FILENO;
 
@@ -42,12 +42,26 @@ fn tell_of(number: u16) {
     }
 }
 
-// A refusal of a sheet; the number said.
-pub fn say(number: u16) -> u16
-    ensures { λ r. ⌜ r ≡ number ⌝ }
-{
+// A line's number, and what stands after it.
+fn tell_line(line: u64, after: &[u8]) {
+    io::write_all(STDERR_FILENO, b"line ");
+    io::print_decimal(STDERR_FILENO, line);
+    io::write_all(STDERR_FILENO, after);
+}
+
+fn tell_number(number: u16) {
     io::print_decimal(STDERR_FILENO, number as u64);
     io::write_all(STDERR_FILENO, b": ");
+}
+
+// A refusal of a sheet, and the line that it is about unless that is 65,535; the number said.
+pub fn say_of_sheet(line: u16, number: u16) -> u16
+    ensures { λ r. ⌜ r ≡ number ⌝ }
+{
+    tell_number(number);
+    if line != 65535 {
+        tell_line(line as u64, b" of the sheet, counted from 0: ");
+    }
     tell_of(number);
     number
 }
@@ -56,8 +70,8 @@ pub fn say(number: u16) -> u16
 pub fn say_line(line: usize, number: u16) -> u16
     ensures { λ r. ⌜ r ≡ number ⌝ }
 {
-    io::write_all(STDERR_FILENO, b"line ");
-    io::print_decimal(STDERR_FILENO, line as u64);
-    io::write_all(STDERR_FILENO, b": ");
-    say(number)
+    tell_line(line as u64, b": ");
+    tell_number(number);
+    tell_of(number);
+    number
 }

@@ -1,20 +1,22 @@
 // The check of a list of rows, whoever made it: accepted exactly if every row is a place and no two rows are equal.
 ghost use mathlib.Core.Path.{_≡_};
-ghost use Prim.Native.Nat.{_/_, _<_};
+ghost use mathlib.Core.List.{List};
+ghost use Prim.Native.Nat.{ℕ, _/_, _<_};
 ghost use lib.ListN.{length};
 ghost use Rattle.rules.specs.Checks.{Accepted, figureLimits, verdict};
 ghost use Rattle.rules.specs.Place.{Figure, Patch};
-ghost use Rattle.rules.specs.Calls.{figureOf};
+ghost use Rattle.rules.specs.Calls.{figureOf, figureChecks};
 ghost use Rattle.rules.specs.RowCheck.{rowChecks, rowCount, RowsTested, RowsChecked};
 ghost use Rattle.sheet.specs.Check.{verdictOf};
+ghost use Rattle.figure.specs.FigureTables.{HoldsFigure};
 ghost use Rattle.patch.specs.Tables.{Holds};
 ghost use Rattle.row_check.specs.Against.{Against};
 use crate::equal::repeats;
 use crate::equal::row_of;
 use crate::place::ends_of;
 use crate::place::is_place;
-use figure::check_whole;
-use figure::load_figure;
+use figure::FigureArrays;
+use figure::check_and_load;
 use patch::load;
 use sheet::check::Verdict;
 use sheet::check::check_patch;
@@ -67,24 +69,32 @@ fn walk(
     Tested { number: 0, row: 0 }
 }
 
-// The rows against a loaded patch of `size` vertices, for the figure of a checked sheet.
-fn test_rows(figure: &[u8], tables: &[u16], size: u16, rows: &[u16]) -> Tested
-    requires { ⌜ Accepted figureLimits (now figure) × ((P : Patch) × Holds P (now tables) × (P .graph .size ≡ size)) ⌝ }
-    ensures { λ r. ⌜ ((P : Patch) → Holds P (now (tables .entry)) → P .graph .size ≡ size → RowsTested (figureOf (now (figure .entry))) P (now (rows .entry)) (rowCount (now (figure .entry)) (now (rows .entry))) (r .number) (r .row)) ⌝ }
+// The rows against a loaded patch of `size` vertices, for the loaded figure of a checked sheet, whose lines are read here.
+fn test_rows(sheet: &[u8], figure: FigureArrays, tables: &[u16], size: u16, rows: &[u16]) -> Tested
+    requires { ⌜ Accepted figureLimits (now sheet) × HoldsFigure (figureOf (now sheet)) (figure .n) (figure .kinds) (figure .near) (figure .degrees) × ((P : Patch) × Holds P (now tables) × (P .graph .size ≡ size)) ⌝ }
+    ensures { λ r. ⌜ ((P : Patch) → Holds P (now (tables .entry)) → P .graph .size ≡ size → RowsTested (figureOf (now (sheet .entry))) P (now (rows .entry)) (rowCount (now (sheet .entry)) (now (rows .entry))) (r .number) (r .row)) ⌝ }
 {
-    let f = load_figure(figure);
-    let e = ends_of(figure);
-    let kinds = f.kinds;
+    let e = ends_of(sheet);
+    let kinds = figure.kinds;
     let first = e.first;
     let second = e.second;
-    walk(tables, size, &kinds, &first, &second, e.count, f.n, rows)
+    walk(
+        tables,
+        size,
+        &kinds,
+        &first,
+        &second,
+        e.count,
+        figure.n,
+        rows,
+    )
 }
 
-// What the checks before the rows' answer: the figure's, the patch's, then 42.
-fn check_before(figure: &[u8], patch: &[u8], rows: &[u16]) -> Verdict
-    ensures { λ r. ⌜ verdictOf r ≡ verdict (rowChecks (now (figure .entry)) (now (patch .entry)) (now (rows .entry))) ⌝ }
+// What the checks before the rows' answer: the figure's, which is f, the patch's, then 42, where a row has n entries.
+fn check_before(f: Verdict, n: usize, patch: &[u8], rows: &[u16]) -> Verdict
+    requires { ⌜ (f .number ≡ 0 → 0 < n) ⌝ }
+    ensures { λ r. ⌜ ((figure : List ℕ) → verdictOf f ≡ verdict (figureChecks figure) → (f .number ≡ 0 → figureOf figure .graph .size ≡ n) → verdictOf r ≡ verdict (rowChecks figure (now (patch .entry)) (now (rows .entry)))) ⌝ }
 {
-    let f = check_whole(figure);
     if f.number != 0 {
         return f;
     }
@@ -92,7 +102,6 @@ fn check_before(figure: &[u8], patch: &[u8], rows: &[u16]) -> Verdict
     if p.number != 0 {
         return p;
     }
-    let n = counts(figure).vertices as usize;
     if rows.len() % n != 0 {
         return lineless(42);
     }
@@ -102,7 +111,8 @@ fn check_before(figure: &[u8], patch: &[u8], rows: &[u16]) -> Verdict
 pub fn check_rows(figure: &[u8], patch: &[u8], rows: &[u16]) -> Checked
     ensures { λ r. ⌜ RowsChecked (now (figure .entry)) (now (patch .entry)) (now (rows .entry)) (record { number = r .number; line = r .line }) (r .row) ⌝ }
 {
-    let verdict = check_before(figure, patch, rows);
+    let checked = check_and_load(figure);
+    let verdict = check_before(checked.verdict, checked.figure.n, patch, rows);
     if verdict.number != 0 {
         return Checked {
             number: verdict.number,
@@ -113,7 +123,7 @@ pub fn check_rows(figure: &[u8], patch: &[u8], rows: &[u16]) -> Checked
     let mut tables = [0u16; 5122];
     load(patch, &mut tables);
     let c = counts(patch);
-    let tested = test_rows(figure, &tables, c.vertices, rows);
+    let tested = test_rows(figure, checked.figure, &tables, c.vertices, rows);
     Checked {
         number: tested.number,
         line: 65535,

@@ -2,8 +2,8 @@
 use Prim.Native.Nat.{ℕ, zero, suc, _+_, _*_, _-_, _≤_, _<_}
 use mathlib.Core.Path.{_≡_, refl, ap, sym, _∙_}
 use mathlib.Core.Logic.{_≢_, _⊎_, inl, inr, ⊎-elim, _↔_}
-use mathlib.Core.List.{List, [], _∷_, _++_, map, List·Memᴰ, List·Memᴰ·head, List·Memᴰ·tail, List·Memᴰ·not-nil, List·Memᴰ·cases-cons, List·Memᴰ·append-cases, Memᴰ·of-map, Memᴰ·cast}
-use mathlib.Core.Bool.{Bool, true, false≢true, or-true, and-eq-true-iff}
+use mathlib.Core.List.{List, [], _∷_, _++_, map, List·Memᴰ, List·Memᴰ·head, List·Memᴰ·tail, List·Memᴰ·not-nil, List·Memᴰ·cases-cons, Memᴰ·of-map}
+use mathlib.Core.Bool.{true, false, or-true, and-eq-true-iff}
 use mathlib.Core.Option.{Option, some, none}
 use native.Mathlib.Omega.{arith}
 use borrow.Author.Tests.{ltb-true, leb-true, eqb-true, lt-ltb, le-leb, eq-eqb}
@@ -14,57 +14,13 @@ use Rattle.rules.specs.Graph.{Drawn, Connected}
 use Rattle.rules.specs.Place.{Checked}
 use Rattle.rules.specs.Sheet.{Line, vertexCount, lineCount, bitLength, byteLength, bitAt, held, kindsHeld}
 use Rattle.rules.specs.Live.{live}
-use Rattle.rules.specs.Checks.{Verdict, lineless, Check, verdict, checked, FirstToFail, fails, passes, Limits, figureLimits, patchLimits, counted, cleared, lineFits, comesAfter, follows, Drawable, lineChecks, sheetChecks, sheetVerdict, Accepted}
+use Rattle.rules.specs.Checks.{Verdict, lineless, Check, verdict, Limits, figureLimits, patchLimits, counted, cleared, lineFits, comesAfter, follows, Drawable, fitCheck, orderCheck, lineChecks, sheetChecks, sheetVerdict, Accepted}
 use Rattle.rules.specs.Calls.{endsOf, graphOf, figureOf, patchOf, connected, figureChecks, pairChecks, searchChecks, searchRefusals, Handed}
 use Rattle.laws.proofs.Lists.{split, has-out, keep-out, keep-ordered, all-in, all-out, upto-in, upto-out, length-map-upto}
 use Rattle.rules.proofs.Breadth.{connected-iff}
+use Rattle.rules.proofs.Verdicts.{verdict-passes, verdict-fails, verdict-none, verdict-cons, Numbered, numbered-cons, numbered-append, numbered-nil, Positive, positive-append, verdict-first, verdict-rest, verdict-append}
 
--- the verdict on a list of checks is 0 exactly where each check passes, if no check has number 0
-pub verdict-cons : (c : Check) (cs : List Check) → 0 < c .1 .number → (verdict (c ∷ cs) .number ≡ 0) ↔ ((c .0 ≡ true) × (verdict cs .number ≡ 0))
-unfolding verdict
-verdict-cons c cs h = elim (split (c .0)) [ inl e ↦ rw e (λ v. (refl, v), λ v. v .1) | inr e ↦ rw e (λ v. absurd (omega arith), λ v. absurd (false≢true (v .0))) ]
-
--- a call does what it does where all its checks pass, and else refuses by what the first to fail answers
-pub checked-passes : {R : Type 0} (v : Verdict) (taken : R) (refused : Verdict → R) → v .number ≡ 0 → checked v taken refused ≡ taken
-unfolding checked
-checked-passes v taken refused e = rw e
-
-pub checked-fails : {R : Type 0} (v : Verdict) (taken : R) (refused : Verdict → R) → (v .number ≡ 0 → ⊥) → checked v taken refused ≡ refused v
-unfolding checked
-checked-fails v taken refused f = go (v .number) refl
-  where
-    go : (k : ℕ) → v .number ≡ k → checked v taken refused ≡ refused v
-    go zero e = absurd (f e)
-    go (suc k) e = rw e
-
--- a number is given exactly where its check is the first to fail
-fail-out : (cs : List Check) (k : ℕ) → 0 < k → verdict cs .number ≡ k → FirstToFail k cs
-unfolding verdict
-fail-out [] k h e = absurd (omega arith)
-fail-out (c ∷ cs) k h e = elim (split (c .0)) [ inl t ↦ passes t (fail-out cs k h (rw t at e)) | inr t ↦ fails t (rw t at e) ]
-
-fail-in : {cs : List Check} (k : ℕ) → FirstToFail k cs → verdict cs .number ≡ k
-unfolding verdict
-fail-in k (fails t e) = rw t e
-fail-in k (passes t f) = rw t (fail-in k f)
-
-pub first-to-fail : (cs : List Check) (k : ℕ) → 0 < k → (verdict cs .number ≡ k) ↔ FirstToFail k cs
-first-to-fail cs k h = (fail-out cs k h, fail-in k)
-
--- checks are numbered by numbers of a list
-abbrev pub Numbered : List ℕ → List Check → Type 0
-Numbered ns cs = (c : Check) → List·Memᴰ c cs → List·Memᴰ (c .1 .number) ns
-
--- and so they are one after the other
-pub numbered-cons : {ns : List ℕ} {b : Bool} {v : Verdict} {cs : List Check} → List·Memᴰ (v .number) ns → Numbered ns cs → Numbered ns ((b, v) ∷ cs)
-numbered-cons m f c i = ⊎-elim (λ e. Memᴰ·cast (ap (λ d. d .1 .number) e) m) (f c) (List·Memᴰ·cases-cons i)
-
-pub numbered-append : {ns : List ℕ} (cs : List Check) {ds : List Check} → Numbered ns cs → Numbered ns ds → Numbered ns (cs ++ ds)
-numbered-append cs f g c i = ⊎-elim (f c) (g c) (List·Memᴰ·append-cases cs i)
-
-pub numbered-nil : {ns : List ℕ} → Numbered ns []
-numbered-nil c i = absurd (List·Memᴰ·not-nil i)
-
+-- the numbers of the checks of lines and of a sheet
 pub lines-numbered : {ns : List ℕ} (ten n : ℕ) → List·Memᴰ (ten + 4) ns → List·Memᴰ (ten + 5) ns → (j : ℕ) (before : Option Line) (ls : List Line) → Numbered ns (lineChecks ten n j before ls)
 lines-numbered ten n f g j before [] = numbered-nil
 lines-numbered ten n f g j before (l ∷ ls) = numbered-cons f (numbered-cons g (lines-numbered ten n f g (suc j) (some l) ls))
@@ -72,47 +28,23 @@ lines-numbered ten n f g j before (l ∷ ls) = numbered-cons f (numbered-cons g 
 pub sheet-numbered : {ns : List ℕ} (L : Limits) → ((i : ℕ) → i < 5 → List·Memᴰ (L .ten + suc i) ns) → (bytes : List ℕ) → Numbered ns (sheetChecks L bytes)
 sheet-numbered L each bytes = numbered-cons (each 0 (omega arith)) (numbered-cons (each 1 (omega arith)) (numbered-cons (each 0 (omega arith)) (numbered-cons (each 2 (omega arith)) (lines-numbered (L .ten) _ (each 3 (omega arith)) (each 4 (omega arith)) 0 none (held bytes .lines)))))
 
--- the numbers of a list are from 11 up
-abbrev pub From11 : List ℕ → Type 0
-From11 ns = all (ltb 10) ns ≡ true
+-- none of them is 0
+pub lines-positive : (ten n j : ℕ) (before : Option Line) (ls : List Line) → Positive (lineChecks ten n j before ls)
+lines-positive ten n j before [] = tt
+lines-positive ten n j before (l ∷ ls) = (omega arith, (omega arith, lines-positive ten n (suc j) (some l) ls))
 
-pub from-11 : {k : ℕ} {ns : List ℕ} → From11 ns → List·Memᴰ k ns → 10 < k
-from-11 {k} f m = ltb-true 10 k (all-out (ltb 10) m f)
+pub sheet-positive : (L : Limits) (bytes : List ℕ) → Positive (sheetChecks L bytes)
+sheet-positive L bytes = (omega arith, (omega arith, (omega arith, (omega arith, lines-positive (L .ten) (vertexCount bytes) 0 none (held bytes .lines)))))
 
--- a verdict is 0 or one of the numbers
-pub verdict-number : {ns : List ℕ} (cs : List Check) → Numbered ns cs → (verdict cs .number ≡ 0) ⊎ List·Memᴰ (verdict cs .number) ns
-unfolding verdict
-verdict-number [] h = inl refl
-verdict-number (c ∷ cs) h = elim (split (c .0)) [ inl e ↦ rw e (verdict-number cs (λ d m. h d (List·Memᴰ·tail m))) | inr e ↦ rw e (inr (h c (List·Memᴰ·head refl))) ]
+-- a sheet's checks, and then others: what the sheet's answer stands, and after 0 the others say
+module _ (L : Limits) (bytes : List ℕ) (ds : List Check) where
+  pub sheet-first : {v : Verdict} → v ≡ sheetVerdict L bytes → (v .number ≡ 0 → ⊥) → v ≡ verdict (sheetChecks L bytes ++ ds)
+  unfolding sheetVerdict
+  sheet-first e f = e ∙ sym (verdict-first (sheetChecks L bytes) ds (λ z. f (ap (λ w. w .number) e ∙ z)))
 
--- the checks of a list have numbers above 0
-abbrev pub Positive : List Check → Type 0
-Positive [] = Unit
-Positive (c ∷ cs) = (0 < c .1 .number) × Positive cs
-
-pub numbered-positive : {ns : List ℕ} → From11 ns → (cs : List Check) → Numbered ns cs → Positive cs
-numbered-positive f [] h = tt
-numbered-positive f (c ∷ cs) h = (omega (arith, from-11 f (h c (List·Memᴰ·head refl))), numbered-positive f cs (λ d m. h d (List·Memᴰ·tail m)))
-
--- a number from the first checks stands, and after 0 the later checks say
-pub verdict-first : (cs ds : List Check) → (verdict cs .number ≡ 0 → ⊥) → verdict (cs ++ ds) ≡ verdict cs
-unfolding verdict
-verdict-first [] ds f = absurd (f refl)
-verdict-first (c ∷ cs) ds f = elim (split (c .0)) [ inl e ↦ rw e (verdict-first cs ds (λ z. f (rw e z))) | inr e ↦ rw e ]
-
-pub verdict-rest : (cs ds : List Check) → Positive cs → verdict cs .number ≡ 0 → verdict (cs ++ ds) ≡ verdict ds
-unfolding verdict
-verdict-rest [] ds p h = refl
-verdict-rest (c ∷ cs) ds p h = elim (split (c .0)) [ inl e ↦ rw e (verdict-rest cs ds (p .1) (rw e at h)) | inr e ↦ absurd (omega (arith, p .0, rw e at h)) ]
-
-pub verdict-append : {ns : List ℕ} → From11 ns → (cs ds : List Check) → Numbered ns cs → (verdict (cs ++ ds) .number ≡ 0) ↔ ((verdict cs .number ≡ 0) × (verdict ds .number ≡ 0))
-unfolding verdict
-verdict-append f [] ds h = (λ v. (refl, v), λ v. v .1)
-verdict-append f (c ∷ cs) ds h =
-    let now = verdict-cons c (cs ++ ds) (omega (arith, from-11 f (h c (List·Memᴰ·head refl)))) in
-    let now′ = verdict-cons c cs (omega (arith, from-11 f (h c (List·Memᴰ·head refl)))) in
-    let rest = verdict-append f cs ds (λ d m. h d (List·Memᴰ·tail m)) in
-    (λ v. let a = now .0 v in let b = rest .0 (a .1) in (now′ .1 (a .0, b .0), b .1), λ v. let a = now′ .0 (v .0) in now .1 (a .0, rest .1 (a .1, v .1)))
+  pub sheet-rest : sheetVerdict L bytes .number ≡ 0 → verdict (sheetChecks L bytes ++ ds) ≡ verdict ds
+  unfolding sheetVerdict
+  sheet-rest = verdict-rest (sheetChecks L bytes) ds (sheet-positive L bytes)
 
 -- what the test of a line's fit says
 fits-iff : (n : ℕ) (l : Line) → (lineFits n l ≡ true) ↔ ((l .type ≤ 2) × (l .first < l .second) × (l .second < n))
@@ -143,8 +75,8 @@ module _ (ten n : ℕ) where
   lines-out : (j : ℕ) (before : Option Line) (ls : List Line) → verdict (lineChecks ten n j before ls) .number ≡ 0 → Drawable n ls × ((l : Line) → List·Memᴰ l ls → follows before l ≡ true)
   lines-out j before [] v = (record { fit = λ l m. absurd (List·Memᴰ·not-nil m); ascend = nil }, λ l m. absurd (List·Memᴰ·not-nil m))
   lines-out j before (l ∷ ls) v =
-      let a = verdict-cons (lineFits n l, record { number = ten + 4; line = j }) ((follows before l, record { number = ten + 5; line = j }) ∷ lineChecks ten n (suc j) (some l) ls) (omega arith) .0 v in
-      let b = verdict-cons (follows before l, record { number = ten + 5; line = j }) (lineChecks ten n (suc j) (some l) ls) (omega arith) .0 (a .1) in
+      let a = verdict-cons (fitCheck ten n j l) (orderCheck ten j before l ∷ lineChecks ten n (suc j) (some l) ls) (omega arith) .0 v in
+      let b = verdict-cons (orderCheck ten j before l) (lineChecks ten n (suc j) (some l) ls) (omega arith) .0 (a .1) in
       let r = lines-out (suc j) (some l) ls (b .1) in (
         record {
           fit = λ k m. ⊎-elim (λ e. rw e (fits-iff n l .0 (a .0))) (r .0 .fit k) (List·Memᴰ·cases-cons m);
@@ -206,6 +138,11 @@ module _ (L : Limits) (bytes : List ℕ) where
       back : Accepted L bytes → verdict (sheetChecks L bytes) .number ≡ 0
       back A = rw (le-leb 3 (length bytes) (omega arith), counted-iff L n m .1 (A .vertex, A .vertices, A .lines), eq-eqb _ _ (A .long), cleared-iff .1 (A .filling)) (lines-iff (L .ten) n _ .1 (A .drawn))
 
+-- a sheet's check answers 0 exactly where the sheet is accepted
+pub sheet-accepted : (L : Limits) (bytes : List ℕ) → (sheetVerdict L bytes .number ≡ 0) ↔ Accepted L bytes
+unfolding sheetVerdict
+sheet-accepted L bytes = accepted-iff L bytes
+
 -- lines each after the one before it are different as pairs of ends
 pairs-once : {ls : List Line} → Ordered (λ k l. comesAfter k l ≡ true) ls → Ordered _≢_ (map endsOf ls)
 pairs-once nil = nil
@@ -248,6 +185,9 @@ figure-sheet-numbered = sheet-numbered figureLimits (tens 10 (has-out 11 _ refl)
 pub figure-numbered : (figure : List ℕ) → Numbered searchRefusals (figureChecks figure)
 figure-numbered figure = numbered-append (sheetChecks figureLimits figure) (figure-sheet-numbered figure) (numbered-cons (has-out 16 _ refl) numbered-nil)
 
+pub figure-positive : (figure : List ℕ) → Positive (figureChecks figure)
+figure-positive figure = positive-append (sheetChecks figureLimits figure) _ (sheet-positive figureLimits figure) (omega arith, tt)
+
 pub patch-numbered : (patch : List ℕ) → Numbered searchRefusals (sheetChecks patchLimits patch)
 patch-numbered = sheet-numbered patchLimits (tens 20 (has-out 21 _ refl) (has-out 22 _ refl) (has-out 23 _ refl) (has-out 24 _ refl) (has-out 25 _ refl))
 
@@ -275,27 +215,33 @@ module _ (figure patch : List ℕ) (last : Check) where
 
   module _ (good : verdict (figureChecks figure) .number ≡ 0) where
     past-figure : pair ≡ verdict (sheetChecks patchLimits patch ++ last ∷ [])
-    past-figure = verdict-rest (figureChecks figure) _ (numbered-positive {ns = searchRefusals} refl (figureChecks figure) (figure-numbered figure)) good
+    past-figure = verdict-rest (figureChecks figure) _ (figure-positive figure) good
 
     -- then the patch's
     pub pair-patch : {v : Verdict} → v ≡ sheetVerdict patchLimits patch → (v .number ≡ 0 → ⊥) → v ≡ pair
-    unfolding sheetVerdict
-    pair-patch e f = e ∙ sym (past-figure ∙ verdict-first (sheetChecks patchLimits patch) _ (λ z. f (ap (λ w. w .number) e ∙ z)))
+    pair-patch e f = sheet-first patchLimits patch (last ∷ []) e f ∙ sym past-figure
 
-    -- then the last
-    pub pair-last : sheetVerdict patchLimits patch .number ≡ 0 → pair ≡ verdict (last ∷ [])
-    unfolding sheetVerdict
-    pair-last sound = past-figure ∙ verdict-rest (sheetChecks patchLimits patch) _ (numbered-positive {ns = searchRefusals} refl (sheetChecks patchLimits patch) (patch-numbered patch)) sound
+    module _ (sound : sheetVerdict patchLimits patch .number ≡ 0) where
+      past-patch : pair ≡ verdict (last ∷ [])
+      past-patch = past-figure ∙ sheet-rest patchLimits patch (last ∷ []) sound
+
+      -- then the last
+      pub pair-last : last .0 ≡ false → last .1 ≡ pair
+      pair-last e = sym (past-patch ∙ verdict-fails last [] e)
+
+      -- or none
+      pub pair-none : last .0 ≡ true → lineless 0 ≡ pair
+      pair-none e = sym (past-patch ∙ verdict-passes last [] e ∙ verdict-none)
 
   -- and they pass exactly where all three do
   pub pair-passes : (pair .number ≡ 0) ↔ ((verdict (figureChecks figure) .number ≡ 0) × (verdict (sheetChecks patchLimits patch) .number ≡ 0) × (verdict (last ∷ []) .number ≡ 0))
   pair-passes = (λ z. let a = f .0 z in let b = p .0 (a .1) in (a .0, b .0, b .1), λ h. f .1 (h .0, p .1 (h .1, h .2)))
     where
       p : (verdict (sheetChecks patchLimits patch ++ last ∷ []) .number ≡ 0) ↔ ((verdict (sheetChecks patchLimits patch) .number ≡ 0) × (verdict (last ∷ []) .number ≡ 0))
-      p = verdict-append {ns = searchRefusals} refl (sheetChecks patchLimits patch) (last ∷ []) (patch-numbered patch)
+      p = verdict-append (sheetChecks patchLimits patch) (last ∷ []) (sheet-positive patchLimits patch)
 
       f : (pair .number ≡ 0) ↔ ((verdict (figureChecks figure) .number ≡ 0) × (verdict (sheetChecks patchLimits patch ++ last ∷ []) .number ≡ 0))
-      f = verdict-append {ns = searchRefusals} refl (figureChecks figure) _ (figure-numbered figure)
+      f = verdict-append (figureChecks figure) _ (figure-positive figure)
 
 -- a figure's checks pass exactly where its sheet is accepted and the figure is connected
 pub figure-iff : (figure : List ℕ) → (verdict (figureChecks figure) .number ≡ 0) ↔ (Accepted figureLimits figure × Connected (figureOf figure .graph))
@@ -309,7 +255,7 @@ figure-iff figure = (
     linked A = let D = figure-drawn figure A in connected-iff (figureOf figure) (D .0) (D .1)
 
     s : (verdict (figureChecks figure) .number ≡ 0) ↔ ((verdict (sheetChecks figureLimits figure) .number ≡ 0) × (verdict ((connected (figureOf figure), lineless 16) ∷ []) .number ≡ 0))
-    s = verdict-append {ns = searchRefusals} refl (sheetChecks figureLimits figure) _ (figure-sheet-numbered figure)
+    s = verdict-append (sheetChecks figureLimits figure) _ (sheet-positive figureLimits figure)
 
 module _ (figure patch memory : List ℕ) where
   pub search-numbered : Numbered searchRefusals (searchChecks figure patch memory)

@@ -17,7 +17,8 @@ use Rattle.rules.specs.Partials.{Partial, partialsOf, partials}
 use Rattle.rules.specs.Answer.{Cut, answer, allRows}
 use Rattle.rules.specs.Calls.{over, linesOf, unread, reader, readerChecks, readerRefusals, ReaderHanded, unwritten, writer, writerChecks, writerRefusals, WriterHanded, figureOf, patchOf, searchChecks, searchRefusals, Handed, Searched, Taken, roomOf, answered, refused, search, LineOfTwo, of-neither, found}
 use Rattle.laws.proofs.Lists.{no-member}
-use Rattle.rules.proofs.Accepted.{first-to-fail, from-11, handed-checked}
+use Rattle.rules.proofs.Verdicts.{first-to-fail, from-11}
+use Rattle.rules.proofs.Accepted.{handed-checked}
 use Rattle.rules.proofs.Partials.{partials-exactly, partials-once}
 use Rattle.rules.proofs.ReadWrite.{reader-taken, reader-either, reader-untouched, reader-writer, writer-taken, writer-either, writer-untouched, writer-reader}
 use Rattle.rules.proofs.Offending.{reader-told, writer-told, two-none, pair-told, offending-once}

@@ -22,6 +22,7 @@ pub mod Partials
 pub mod Bound
 pub mod Cut
 pub mod Search
+pub mod Verdicts
 pub mod Accepted
 pub mod Ascending
 pub mod Fields

@@ -1,5 +1,5 @@
 -- How the reader and the writer go: what they are rightly handed, what they change, and both round trips.
-use Prim.Native.Nat.{ℕ, zero, suc, _+_, _*_, _/_, _%_, _≤_, _<_}
+use Prim.Native.Nat.{ℕ, _+_, _*_, _/_, _%_, _≤_}
 use mathlib.Core.Path.{_≡_, refl, ap, _∙_}
 use mathlib.Core.Logic.{_⊎_, inl, inr, _↔_}
 use mathlib.Core.List.{List, [], _∷_, _++_, List·Memᴰ, Memᴰ·of-map}
@@ -15,7 +15,8 @@ use Rattle.rules.specs.Sheet.{Line, Sheet, Bytes, vertexCount, lineCount
 use Rattle.rules.specs.Checks.{Verdict, noLine, lineless, Check, verdict, patchLimits, counted, lineChecks, sheetChecks, Accepted}
 use Rattle.rules.specs.Calls.{over, triples, linesOf, whenRead, unread, readerChecks, readerRefusals, ReaderHanded, reader, whenWritten, unwritten, sheetOf, Writable, writerChecks, writerRefusals, WriterHanded, writer}
 use Rattle.laws.proofs.Lists.{has-out, all-in, all-out, length-map-upto}
-use Rattle.rules.proofs.Accepted.{Numbered, numbered-cons, numbered-append, numbered-nil, tens, checked-passes, checked-fails, from-11, verdict-number, verdict-cons, verdict-append, lines-numbered, sheet-numbered, counted-iff, lines-iff, accepted-iff}
+use Rattle.rules.proofs.Verdicts.{Numbered, numbered-cons, numbered-append, numbered-nil, checked-passes, checked-fails, from-11, verdict-number, verdict-cons, verdict-append}
+use Rattle.rules.proofs.Accepted.{tens, lines-numbered, sheet-numbered, lines-positive, sheet-positive, counted-iff, lines-iff, accepted-iff}
 use Rattle.rules.proofs.Fields.{bitAt-lt, word-lt}
 use Rattle.rules.proofs.RoundTrip.{read-written, count-back, written-read, written-long, written-accepted}
 
@@ -57,7 +58,7 @@ module _ (bytes ks ls : List ℕ) where
   reader-iff = (λ v. let a = checks .0 v in let b = and-eq-true-iff _ _ .0 (verdict-cons space [] (omega arith) .0 (a .1) .0) in record { sheet = accepted-iff patchLimits bytes .0 (a .0); kinds = leb-true _ _ (b .0); lines = leb-true _ _ (b .1) }, λ H. checks .1 (accepted-iff patchLimits bytes .1 (H .sheet), rw (le-leb _ _ (H .kinds), le-leb _ _ (H .lines))))
     where
       checks : (verdict (readerChecks bytes ks ls) .number ≡ 0) ↔ ((verdict (sheetChecks patchLimits bytes) .number ≡ 0) × (verdict (space ∷ []) .number ≡ 0))
-      checks = verdict-append {ns = readerRefusals} refl (sheetChecks patchLimits bytes) (space ∷ []) (reader-sheet-numbered bytes)
+      checks = verdict-append (sheetChecks patchLimits bytes) (space ∷ []) (sheet-positive patchLimits bytes)
 
   abbrev first : Verdict
   first = verdict (readerChecks bytes ks ls)
@@ -90,7 +91,7 @@ module _ (ks ls bytes : List ℕ) where
   writer-iff = (there, λ H. rw (eq-eqb _ _ (H .threes), counted-iff patchLimits (length ks) (length ls / 3) .1 (H .sheet .vertex, H .sheet .vertices, rw length-linesOf at (H .sheet .lines)), all-in (λ k. leb k 63) ks (λ k m. le-leb k 63 (H .sheet .kinds k m))) (checks .1 (lines-iff 20 (length ks) (linesOf ls) .1 (H .sheet .drawn), rw (le-leb _ _ (H .space)))))
     where
       checks : (verdict (onLines ++ room ∷ []) .number ≡ 0) ↔ ((verdict onLines .number ≡ 0) × (verdict (room ∷ []) .number ≡ 0))
-      checks = verdict-append {ns = writerRefusals} refl onLines (room ∷ []) (lines-numbered 20 (length ks) (has-out 24 _ refl) (has-out 25 _ refl) 0 none (linesOf ls))
+      checks = verdict-append onLines (room ∷ []) (lines-positive 20 (length ks) 0 none (linesOf ls))
 
       there : verdict (writerChecks ks ls bytes) .number ≡ 0 → WriterHanded ks ls bytes
       there v =

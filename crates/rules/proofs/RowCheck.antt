@@ -16,7 +16,8 @@ use Rattle.rules.specs.Checks.{Verdict, noLine, lineless, verdict, figur
 use Rattle.rules.specs.Place.{Figure, Patch, Place}
 use Rattle.rules.specs.Calls.{figureOf, patchOf, figureChecks, Handed, Searched, Taken, search, LineOfTwo, rowsIn, found}
 use Rattle.rules.specs.RowCheck.{rowAt, Good, Repeats, Reached, RowsTested, all-good, not-a-place, repeated, rowChecks, rowCount, RowsChecked, refused, tested, rowRefusals}
-use Rattle.rules.proofs.Accepted.{Numbered, numbered-cons, numbered-append, numbered-nil, sheet-numbered, tens, verdict-number, accepted-iff, pair-passes, figure-iff, handed-checked}
+use Rattle.rules.proofs.Verdicts.{Numbered, numbered-cons, numbered-append, numbered-nil, verdict-number}
+use Rattle.rules.proofs.Accepted.{sheet-numbered, tens, accepted-iff, pair-passes, figure-iff, handed-checked}
 use Rattle.rules.proofs.Offending.{two-none, pair-told}
 use Rattle.rules.proofs.Calls as calls
 use Rattle.rules.proofs.Demands as demands

@@ -81,10 +81,18 @@ abbrev pub follows : Option Line → Line → Bool
 follows none l = true
 follows (some k) l = comesAfter k l
 
--- the checks of lines among n vertices, each about its line, where the first of them is line j and `before` is the line before it
+-- the check that line j, which is l, fits among n vertices
+abbrev pub fitCheck : (ten n j : ℕ) → Line → Check
+fitCheck ten n j l = (lineFits n l, record { number = ten + 4; line = j })
+
+-- the check that it comes after the line before it
+abbrev pub orderCheck : (ten j : ℕ) → Option Line → Line → Check
+orderCheck ten j before l = (follows before l, record { number = ten + 5; line = j })
+
+-- the checks of lines among n vertices, where the first of them is line j and `before` is the line before it
 abbrev pub lineChecks : (ten n j : ℕ) (before : Option Line) → List Line → List Check
 lineChecks ten n j before [] = []
-lineChecks ten n j before (l ∷ ls) = (lineFits n l, record { number = ten + 4; line = j }) ∷ (follows before l, record { number = ten + 5; line = j }) ∷ lineChecks ten n (suc j) (some l) ls
+lineChecks ten n j before (l ∷ ls) = fitCheck ten n j l ∷ orderCheck ten j before l ∷ lineChecks ten n (suc j) (some l) ls
 
 -- line j of lines among n vertices is the offending one, the first whose check fails: a sheet may have the lines before it, and not those and it
 pub record Offending (n : ℕ) (ls : List Line) (j : ℕ) : Type 0 where

@@ -1,11 +1,12 @@
--- What the contracts of the public calls say together: two results that a contract allows coincide, and a check answers 0 exactly where the sheet is as it wants it.
+-- What the contracts of the public calls say together: two results that a contract allows coincide, and a check answers by one of its numbers.
 use Prim.Native.Nat.{ℕ, _+_, _<_}
 use mathlib.Core.Path.{_≡_, refl, sym, _∙_}
-use mathlib.Core.Logic.{_⊎_, _↔_}
+use mathlib.Core.Logic.{_⊎_}
 use mathlib.Core.List.{List, [], _∷_, List·Memᴰ, List·Memᴰ·head, List·Memᴰ·tail}
 use Rattle.rules.specs.Sheet.{Line, lineAt}
-use Rattle.rules.specs.Checks.{Limits, figureLimits, patchLimits, sheetChecks, sheetVerdict, Accepted}
-use Rattle.rules.proofs.Accepted.{verdict-number, sheet-numbered, accepted-iff, tens}
+use Rattle.rules.specs.Checks.{Limits, figureLimits, patchLimits, sheetChecks, sheetVerdict}
+use Rattle.rules.proofs.Verdicts.{verdict-number}
+use Rattle.rules.proofs.Accepted.{sheet-numbered, tens}
 use Rattle.sheet.specs.declared.fields.SheetLine.{SheetLine}
 use Rattle.sheet.specs.declared.fields.SheetCounts.{SheetCounts}
 use Rattle.sheet.specs.declared.check.Verdict.{Verdict}
@@ -13,11 +14,7 @@ use Rattle.sheet.specs.Fields.{lineOf}
 use Rattle.sheet.specs.Check.{verdictOf}
 use Rattle.sheet.proofs.Words.{field-lt}
 
--- a check answers 0 exactly where the sheet is as its checks want it, and one of its five numbers otherwise
-pub check-accepts : (L : Limits) (sheet : List ℕ) → (sheetVerdict L sheet .number ≡ 0) ↔ Accepted L sheet
-unfolding sheetVerdict
-check-accepts L sheet = accepted-iff L sheet
-
+-- a check answers 0, exactly where the sheet is as its checks want it (`sheet-accepted` of rules), or one of its five numbers
 pub check-numbers : (L : Limits) (sheet : List ℕ) → (sheetVerdict L sheet .number ≡ 0) ⊎ List·Memᴰ (sheetVerdict L sheet .number) ((L .ten + 1) ∷ (L .ten + 2) ∷ (L .ten + 3) ∷ (L .ten + 4) ∷ (L .ten + 5) ∷ [])
 unfolding sheetVerdict
 check-numbers L sheet = verdict-number (sheetChecks L sheet) (sheet-numbered L (tens (L .ten) (List·Memᴰ·head refl) (List·Memᴰ·tail (List·Memᴰ·head refl)) (List·Memᴰ·tail (List·Memᴰ·tail (List·Memᴰ·head refl))) (List·Memᴰ·tail (List·Memᴰ·tail (List·Memᴰ·tail (List·Memᴰ·head refl)))) (List·Memᴰ·tail (List·Memᴰ·tail (List·Memᴰ·tail (List·Memᴰ·tail (List·Memᴰ·head refl)))))) sheet)

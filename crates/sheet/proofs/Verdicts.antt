@@ -9,14 +9,14 @@ use native.Mathlib.Nat.{zero-mul, zero-add, mul-le-mul-right}
 use native.Mathlib.Decide.{decLt, ℕ-discrete}
 use native.Mathlib.Omega.{arith}
 use borrow.Author.Tests.{lt-ltb, le-ltb, le-leb, lt-leb, eq-eqb, ne-eqb, ltb-true, eqb-true, eqb-false}
-use lib.Dec.{eqb, ltb}
+use lib.Dec.{eqb, ltb, leb}
 use lib.ListN.{length}
 use lib.Pow.{pow-pos}
 use Rattle.laws.specs.Lists.{all, upto}
 use Rattle.laws.proofs.Lists.{split}
 use Rattle.rules.specs.Sheet.{Line, bitAt, word, field, vertexCount, lineCount, bitLength, byteLength, linesHeld}
-use Rattle.rules.specs.Checks.{Verdict, lineless, verdict, Limits, counted, cleared, lineFits, comesAfter, lineChecks, sheetVerdict}
-use Rattle.rules.proofs.Accepted.{verdict-first, verdict-rest}
+use Rattle.rules.specs.Checks.{Verdict, lineless, Check, verdict, Limits, counted, cleared, lineFits, comesAfter, fitCheck, orderCheck, lineChecks, sheetVerdict}
+use Rattle.rules.proofs.Verdicts.{verdict-passes, verdict-fails, verdict-none, verdict-first, verdict-rest}
 use Rattle.sheet.specs.Check.{verdictOf, headChecks, lineNumber}
 use Rattle.sheet.specs.declared.check.Verdict.{Verdict as Struct}
 
@@ -87,28 +87,29 @@ module _ (ten n : ℕ) (k l : Line) where
   line-good e f = rw (e, f)
 
   -- the first of them to fail says of the lines from it on, and after 0 the later lines say
-  pub line-refused : (j : ℕ) (ls : List Line) → (lineNumber ten n k l ≡ 0 → ⊥) → verdict (lineChecks ten n j (some k) (l ∷ ls)) ≡ record { number = lineNumber ten n k l; line = j }
-  unfolding lineNumber verdict
-  line-refused j ls f = elim (split (lineFits n l)) [
-    | inl e ↦ elim (split (comesAfter k l)) [ inl g ↦ absurd (f (rw (e, g))) | inr g ↦ rw (e, g) ]
-    | inr e ↦ rw e
-  ]
+  module _ (j : ℕ) (ls : List Line) where
+    pub line-refused : (lineNumber ten n k l ≡ 0 → ⊥) → verdict (lineChecks ten n j (some k) (l ∷ ls)) ≡ record { number = lineNumber ten n k l; line = j }
+    line-refused f = elim (split (lineFits n l)) [
+      | inl e ↦ elim (split (comesAfter k l)) [
+        | inl g ↦ absurd (f (line-good e g))
+        | inr g ↦ verdict-passes (fitCheck ten n j l) _ e ∙ verdict-fails (orderCheck ten j (some k) l) _ g ∙ ap (λ x. record { number = x; line = j }) (sym (line-late e g))
+      ]
+      | inr e ↦ verdict-fails (fitCheck ten n j l) _ e ∙ ap (λ x. record { number = x; line = j }) (sym (line-unfit e))
+    ]
 
-  pub line-passed : (j : ℕ) (ls : List Line) → lineNumber ten n k l ≡ 0 → verdict (lineChecks ten n j (some k) (l ∷ ls)) ≡ verdict (lineChecks ten n (suc j) (some l) ls)
-  unfolding lineNumber verdict
-  line-passed j ls z = elim (split (lineFits n l)) [
-    | inl e ↦ elim (split (comesAfter k l)) [ inl g ↦ rw (e, g) | inr g ↦ absurd (omega (arith, rw (e, g) at z)) ]
-    | inr e ↦ absurd (omega (arith, rw e at z))
-  ]
+    pub line-passed : lineNumber ten n k l ≡ 0 → verdict (lineChecks ten n j (some k) (l ∷ ls)) ≡ verdict (lineChecks ten n (suc j) (some l) ls)
+    line-passed z = elim (split (lineFits n l)) [
+      | inl e ↦ elim (split (comesAfter k l)) [ inl g ↦ verdict-passes (fitCheck ten n j l) _ e ∙ verdict-passes (orderCheck ten j (some k) l) _ g | inr g ↦ absurd (omega (arith, z, line-late e g)) ]
+      | inr e ↦ absurd (omega (arith, z, line-unfit e))
+    ]
 
 -- the line before the first
 abbrev pub nought : Line
 nought = record { type = 0; first = 0; second = 0 }
 
 pub from-nought : (ten n : ℕ) (ls : List Line) → verdict (lineChecks ten n 0 none ls) ≡ verdict (lineChecks ten n 0 (some nought) ls)
-unfolding verdict
 from-nought ten n [] = refl
-from-nought ten n (l ∷ ls) = elim (split (lineFits n l)) [ inl e ↦ rw (e, after e) | inr e ↦ rw e ]
+from-nought ten n (l ∷ ls) = elim (split (lineFits n l)) [ inl e ↦ rw (after e) | inr e ↦ verdict-fails (fitCheck ten n 0 l) _ e ∙ sym (verdict-fails (fitCheck ten n 0 l) _ e) ]
   where
     after : lineFits n l ≡ true → comesAfter nought l ≡ true
     after e = elim (decLt (l .first) (l .second)) [
@@ -141,8 +142,7 @@ module _ (g : ℕ → Line) (ten n m : ℕ) where
   turn-passed i k l h e z = let f : suc i ≡ i + 1 = omega arith in rw (upto-step i h, sym e) (line-passed ten n k l i (map g (upto (m - (i + 1)) (i + 1))) z ∙ ap (λ j. verdict (lineChecks ten n j (some l) (map g (upto (m - (i + 1)) (i + 1))))) f)
 
   pub turns-over : (i : ℕ) (k : Line) → m ≤ i → from i k ≡ lineless 0
-  unfolding verdict
-  turns-over i k h = let e : m - i ≡ 0 = omega arith in rw e
+  turns-over i k h = let e : m - i ≡ 0 = omega arith in rw e verdict-none
 
 -- fields at the same place
 pub field-same : (bytes : List ℕ) {i j v w : ℕ} → i ≡ j → v ≡ w → field bytes i v ≡ field bytes j w
@@ -168,14 +168,27 @@ module _ (L : Limits) (bytes : List ℕ) where
   abbrev m : ℕ
   m = lineCount bytes
 
+  abbrev three : Check
+  three = (leb 3 (length bytes), lineless (L .ten + 1))
+
+  abbrev counts : Check
+  counts = (counted L n m, lineless (L .ten + 2))
+
+  abbrev long : Check
+  long = (eqb (length bytes) (byteLength n m), lineless (L .ten + 1))
+
+  abbrev filled : Check
+  filled = (cleared bytes, lineless (L .ten + 3))
+
   pub head-short : length bytes < 3 → verdict (headChecks L bytes) ≡ lineless (L .ten + 1)
-  unfolding verdict
-  head-short h = rw (lt-leb 3 (length bytes) h)
+  head-short h = verdict-fails three _ (lt-leb 3 (length bytes) h)
 
   module _ (a : 3 ≤ length bytes) where
+    past-three : verdict (headChecks L bytes) ≡ verdict (counts ∷ long ∷ filled ∷ [])
+    past-three = verdict-passes three _ (le-leb 3 (length bytes) a)
+
     head-uncounted : counted L n m ≡ false → verdict (headChecks L bytes) ≡ lineless (L .ten + 2)
-    unfolding verdict
-    head-uncounted e = rw (le-leb 3 (length bytes) a, e)
+    head-uncounted e = past-three ∙ verdict-fails counts _ e
 
     pub head-none : n ≡ 0 → verdict (headChecks L bytes) ≡ lineless (L .ten + 2)
     head-none e = head-uncounted (rw e)
@@ -190,21 +203,24 @@ module _ (L : Limits) (bytes : List ℕ) where
       head-counted : counted L n m ≡ true
       head-counted = rw (le-leb 1 n (omega arith), le-leb n (L .vertices) (b .1), le-leb m (L .lines) (b .2))
 
+      past-counts : verdict (headChecks L bytes) ≡ verdict (long ∷ filled ∷ [])
+      past-counts = past-three ∙ verdict-passes counts _ head-counted
+
       pub head-long : (length bytes ≡ byteLength n m → ⊥) → verdict (headChecks L bytes) ≡ lineless (L .ten + 1)
-      unfolding verdict
-      head-long h = rw (le-leb 3 (length bytes) a, head-counted, ne-eqb (length bytes) (byteLength n m) h)
+      head-long h = past-counts ∙ verdict-fails long _ (ne-eqb (length bytes) (byteLength n m) h)
 
       module _ (e : length bytes ≡ byteLength n m) where
         filling : cleared bytes ≡ eqb (field bytes (bitLength n m) (8 * length bytes - bitLength n m)) 0
         filling = clear-word (bitAt bytes) _ _
 
+        past-long : verdict (headChecks L bytes) ≡ verdict (filled ∷ [])
+        past-long = past-counts ∙ verdict-passes long _ (eq-eqb (length bytes) (byteLength n m) e)
+
         pub head-filled : (field bytes (bitLength n m) (8 * length bytes - bitLength n m) ≡ 0 → ⊥) → verdict (headChecks L bytes) ≡ lineless (L .ten + 3)
-        unfolding verdict
-        head-filled h = rw (le-leb 3 (length bytes) a, head-counted, eq-eqb (length bytes) (byteLength n m) e, filling, ne-eqb _ 0 h)
+        head-filled h = past-long ∙ verdict-fails filled [] (filling ∙ ne-eqb _ 0 h)
 
         pub head-good : field bytes (bitLength n m) (8 * length bytes - bitLength n m) ≡ 0 → verdict (headChecks L bytes) ≡ lineless 0
-        unfolding verdict
-        head-good h = rw (le-leb 3 (length bytes) a, head-counted, eq-eqb (length bytes) (byteLength n m) e, filling, eq-eqb _ 0 h)
+        head-good h = past-long ∙ verdict-passes filled [] (filling ∙ eq-eqb _ 0 h) ∙ verdict-none
 
   -- a sheet's answer is that of the checks before its lines, or else that of its lines
   pub sheet-head : (verdict (headChecks L bytes) .number ≡ 0 → ⊥) → sheetVerdict L bytes ≡ verdict (headChecks L bytes)

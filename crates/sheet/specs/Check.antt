@@ -6,7 +6,7 @@ use lib.Dec.{eqb, leb}
 use lib.ListN.{length}
 use Rattle.rules.specs.Sheet.{Line, vertexCount, lineCount, byteLength}
 use Rattle.rules.specs.Checks as rules
-use Rattle.rules.specs.Checks.{Check, lineless, verdict, Limits, counted, cleared, lineFits, comesAfter}
+use Rattle.rules.specs.Checks.{Check, lineless, Limits, counted, cleared, lineFits, comesAfter}
 use Rattle.sheet.specs.declared.check.SheetLimits.{SheetLimits}
 use Rattle.sheet.specs.declared.check.Verdict.{Verdict}
 

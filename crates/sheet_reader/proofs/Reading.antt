@@ -1,6 +1,6 @@
 -- What the reader returns, by the first of its checks to fail.
-use Prim.Native.Nat.{ℕ, zero, suc, _*_, _≤_, _<_}
-use mathlib.Core.Path.{_≡_, refl, ap, ap₂, sym, _∙_}
+use Prim.Native.Nat.{ℕ, _*_, _≤_, _<_}
+use mathlib.Core.Path.{_≡_, ap, ap₂, sym, _∙_}
 use mathlib.Core.Bool.{_&&_, and-false}
 use mathlib.Core.List.{List, [], _∷_}
 use native.Mathlib.Omega.{arith}
@@ -8,10 +8,11 @@ use borrow.Author.Tests.{lt-leb}
 use lib.Dec.{leb}
 use lib.ListN.{length}
 use Rattle.rules.specs.Sheet.{vertexCount, lineCount, kindsHeld, linesHeld}
-use Rattle.rules.specs.Checks.{Verdict, noLine, lineless, Check, verdict, patchLimits, sheetChecks, sheetVerdict}
-use Rattle.rules.specs.Calls.{over, triples, readerChecks, readerRefusals, whenRead, reader}
-use Rattle.rules.proofs.Accepted.{accepted-iff, checked-fails, verdict-first, verdict-rest, numbered-positive}
-use Rattle.rules.proofs.ReadWrite.{reader-taken, reader-sheet-numbered}
+use Rattle.rules.specs.Checks.{Verdict, noLine, lineless, Check, verdict, patchLimits, sheetVerdict}
+use Rattle.rules.specs.Calls.{over, triples, readerChecks, whenRead, reader}
+use Rattle.rules.proofs.Verdicts.{checked-fails, verdict-fails}
+use Rattle.rules.proofs.Accepted.{sheet-first, sheet-rest, sheet-accepted}
+use Rattle.rules.proofs.ReadWrite.{reader-taken}
 use Rattle.sheet_reader.specs.declared.ReadAnswer.{ReadAnswer}
 use Rattle.sheet_reader.specs.Answers.{asRead}
 
@@ -26,26 +27,21 @@ module _ (bytes ks ls : List ℕ) where
     refused e f = (λ i. record { number = h .0 i; line = h .1 i; vertices = h .2 i; lines = h .3 i; kindList = ks; lineList = ls }) ∙ sym (rw e (checked-fails v _ _ f))
 
     pub by-sheet : v ≡ sheetVerdict patchLimits bytes → (v .number ≡ 0 → ⊥) → asRead r ks ls ≡ reader bytes ks ls
-    unfolding sheetVerdict
-    by-sheet e f = refused (verdict-first (sheetChecks patchLimits bytes) (space ∷ []) (λ z. f (ap (λ w. w .number) e ∙ z)) ∙ sym e) f
+    by-sheet e f = refused (sym (sheet-first patchLimits bytes (space ∷ []) e f)) f
 
   module _ (good : sheetVerdict patchLimits bytes .number ≡ 0) where
     spaced : verdict (readerChecks bytes ks ls) ≡ verdict (space ∷ [])
-    unfolding sheetVerdict
-    spaced = verdict-rest (sheetChecks patchLimits bytes) (space ∷ []) (numbered-positive {ns = readerRefusals} refl (sheetChecks patchLimits bytes) (reader-sheet-numbered bytes)) good
+    spaced = sheet-rest patchLimits bytes (space ∷ []) good
 
     module _ (r : ReadAnswer) (v : Verdict) (w : v ≡ lineless 33) (h : (r .number ≡ v .number) × (r .line ≡ v .line) × (r .vertices ≡ 0) × (r .lines ≡ 0)) where
       pub by-kinds : length ks < vertexCount bytes → asRead r ks ls ≡ reader bytes ks ls
-      unfolding verdict
-      by-kinds l = refused r v h (spaced ∙ rw (lt-leb (vertexCount bytes) (length ks) l) (sym w)) (λ z. omega (arith, ap (λ x. x .number) w))
+      by-kinds l = refused r v h (spaced ∙ verdict-fails space [] (rw (lt-leb (vertexCount bytes) (length ks) l)) ∙ sym w) (λ z. omega (arith, ap (λ x. x .number) w))
 
       pub by-lines : length ls < 3 * lineCount bytes → asRead r ks ls ≡ reader bytes ks ls
-      unfolding verdict
-      by-lines l = refused r v h (spaced ∙ rw (lt-leb (3 * lineCount bytes) (length ls) l, and-false) (sym w)) (λ z. omega (arith, ap (λ x. x .number) w))
+      by-lines l = refused r v h (spaced ∙ verdict-fails space [] (rw (lt-leb (3 * lineCount bytes) (length ls) l, and-false)) ∙ sym w) (λ z. omega (arith, ap (λ x. x .number) w))
 
     pub taken : vertexCount bytes ≤ length ks → 3 * lineCount bytes ≤ length ls → reader bytes ks ls ≡ whenRead bytes ks ls
-    unfolding sheetVerdict
-    taken n m = reader-taken bytes ks ls (record { sheet = accepted-iff patchLimits bytes .0 good; kinds = n; lines = m })
+    taken n m = reader-taken bytes ks ls (record { sheet = sheet-accepted patchLimits bytes .0 good; kinds = n; lines = m })
 
     -- what the two lists are written with, by the counts as they were read
     pub by-counts : (r : ReadAnswer) (ks′ ls′ : List ℕ) → r .number ≡ 0 → r .line ≡ noLine → (r .vertices ≡ vertexCount bytes) × (r .lines ≡ lineCount bytes) → r .vertices ≤ length ks → 3 * r .lines ≤ length ls → ks′ ≡ over (kindsHeld bytes (r .vertices)) ks → ls′ ≡ over (triples (linesHeld bytes (r .vertices) (r .lines))) ls → asRead r ks′ ls′ ≡ reader bytes ks ls

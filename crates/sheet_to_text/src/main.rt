@@ -2,7 +2,7 @@
 use libc::STDIN_FILENO;
 use libc::STDOUT_FILENO;
 use listing::text_of;
-use refusal::say;
+use refusal::say_of_sheet;
 
 fn main() {
     let mut sheet = [0u8; 5508];
@@ -10,7 +10,7 @@ fn main() {
     let n = io::read_full(STDIN_FILENO, &mut sheet);
     let made = text_of(&sheet[..n], &mut text);
     if made.number != 0 {
-        say(made.number);
+        say_of_sheet(made.line, made.number);
         return;
     }
     let count = made.count;

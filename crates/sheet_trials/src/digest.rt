@@ -47,10 +47,11 @@ pub(crate) fn count(log: &mut [u64], number: u16) {
     }
 }
 
-// A number that came back, in the counts and in the digest.
-pub(crate) fn note(log: &mut [u64], number: u16) {
+// A number that came back, in the counts and in the digest, and the line beside it in the digest.
+pub(crate) fn note(log: &mut [u64], number: u16, line: u16) {
     count(log, number);
-    mix(log, number as u64);
+    mix_word(log, number);
+    mix_word(log, line);
 }
 
 // The digest of a part, then each number with its count.

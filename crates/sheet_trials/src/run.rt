@@ -19,7 +19,7 @@ use sheet_writer::write;
 // The writer on two lists, and all that came back.
 fn run_write(kinds: &[u16], lines: &[u16], out: &mut [u8], log: &mut [u64]) {
     let w = write(kinds, lines, out);
-    note(log, w.number);
+    note(log, w.number, w.line);
     mix(log, w.count as u64);
     mix_bytes(log, out);
 }
@@ -55,9 +55,9 @@ fn write_dirty(kinds: &[u16], k: usize, lines: &[u16], l: usize, o: usize, log: 
 
 fn run_checks(sheet: &[u8], log: &mut [u64]) {
     let f = check_figure(sheet);
-    note(log, f.number);
+    note(log, f.number, f.line);
     let p = check_patch(sheet);
-    note(log, p.number);
+    note(log, p.number, p.line);
 }
 
 // The counts that the reader returned, and the lists that it left.
@@ -71,7 +71,7 @@ fn note_read(vertices: u16, line_count: u16, kinds: &[u16], lines: &[u16], log: 
 // The reader on a sheet, and the writer on what was read, into o bytes: all that came back.
 fn run_read(sheet: &[u8], kinds: &mut [u16], lines: &mut [u16], o: usize, log: &mut [u64]) {
     let r = read(sheet, kinds, lines);
-    note(log, r.number);
+    note(log, r.number, r.line);
     note_read(r.vertices, r.lines, kinds, lines, log);
     if r.number != 0 {
         return;

@@ -11,11 +11,12 @@ use borrow.Author.Tests.{le-leb, lt-leb, eq-eqb, ne-eqb}
 use lib.Dec.{eqb, leb}
 use lib.ListN.{length, getD, drop}
 use Rattle.laws.specs.Lists.{all}
-use Rattle.laws.proofs.Lists.{has-out, map-upto, length-map-upto, getD-in}
+use Rattle.laws.proofs.Lists.{map-upto, length-map-upto, getD-in}
 use Rattle.rules.specs.Sheet.{Sheet, word, bits, kindBits, lineBits, layout, packed, bitLength, byteLength, written}
 use Rattle.rules.specs.Checks.{Verdict, noLine, lineless, Check, verdict, patchLimits, counted, lineChecks}
 use Rattle.rules.specs.Calls.{over, linesOf, sheetOf, writerChecks, writerRefusals, WriterHanded, writer}
-use Rattle.rules.proofs.Accepted.{checked-fails, from-11, verdict-cons, verdict-first, verdict-rest, numbered-positive, counted-iff, lines-numbered}
+use Rattle.rules.proofs.Verdicts.{checked-fails, from-11, verdict-passes, verdict-fails, verdict-none, verdict-cons, verdict-first, verdict-rest}
+use Rattle.rules.proofs.Accepted.{counted-iff, lines-positive}
 use Rattle.rules.proofs.Fields.{word-same, length-bits}
 use Rattle.rules.proofs.RoundTrip.{length-layout}
 use Rattle.rules.proofs.ReadWrite.{length-linesOf, writer-taken, writer-either}
@@ -30,14 +31,24 @@ use Rattle.sheet_writer.proofs.Lines.{line-among}
 
 -- the checks on the two lists, one after the other
 module _ (ks ls : List ℕ) where
+  abbrev threes : Check
+  threes = (eqb (length ls % 3) 0, lineless 34)
+
+  abbrev counts : Check
+  counts = (counted patchLimits (length ks) (length ls / 3), lineless 22)
+
+  abbrev small : Check
+  small = (all (λ k. leb k 63) ks, lineless 35)
+
   pub lists-threes : (length ls % 3 ≡ 0 → ⊥) → verdict (listChecks ks ls) ≡ lineless 34
-  unfolding verdict
-  lists-threes h = rw (ne-eqb (length ls % 3) 0 h)
+  lists-threes h = verdict-fails threes _ (ne-eqb (length ls % 3) 0 h)
 
   module _ (a : length ls % 3 ≡ 0) where
+    past-threes : verdict (listChecks ks ls) ≡ verdict (counts ∷ small ∷ lineChecks 20 (length ks) 0 none (linesOf ls))
+    past-threes = verdict-passes threes _ (eq-eqb (length ls % 3) 0 a)
+
     lists-uncounted : counted patchLimits (length ks) (length ls / 3) ≡ false → verdict (listChecks ks ls) ≡ lineless 22
-    unfolding verdict
-    lists-uncounted e = rw (eq-eqb (length ls % 3) 0 a, e)
+    lists-uncounted e = past-threes ∙ verdict-fails counts _ e
 
     pub lists-none : length ks ≡ 0 → verdict (listChecks ks ls) ≡ lineless 22
     lists-none e = lists-uncounted (rw e)
@@ -52,19 +63,20 @@ module _ (ks ls : List ℕ) where
       lists-counted : counted patchLimits (length ks) (length ls / 3) ≡ true
       lists-counted = rw (le-leb 1 (length ks) (omega arith), le-leb (length ks) 512 (b .1), le-leb (length ls / 3) 2_048 (b .2))
 
+      past-counts : verdict (listChecks ks ls) ≡ verdict (small ∷ lineChecks 20 (length ks) 0 none (linesOf ls))
+      past-counts = past-threes ∙ verdict-passes counts _ lists-counted
+
       pub lists-kinds : all (λ k. leb k 63) ks ≡ false → verdict (listChecks ks ls) ≡ lineless 35
-      unfolding verdict
-      lists-kinds e = rw (eq-eqb (length ls % 3) 0 a, lists-counted, e)
+      lists-kinds e = past-counts ∙ verdict-fails small _ e
 
       pub lists-drawn : all (λ k. leb k 63) ks ≡ true → verdict (listChecks ks ls) ≡ verdict (lineChecks 20 (length ks) 0 none (linesOf ls))
-      unfolding verdict
-      lists-drawn e = rw (eq-eqb (length ls % 3) 0 a, lists-counted, e)
+      lists-drawn e = past-counts ∙ verdict-passes small _ e
 
   -- lists that pass are within the limits
   pub lists-small : verdict (listChecks ks ls) .number ≡ 0 → (length ks ≤ 512) × (length ls / 3 ≤ 2_048)
   lists-small z =
-      let a = verdict-cons (eqb (length ls % 3) 0, lineless 34) _ (omega arith) .0 z in
-      let b = verdict-cons (counted patchLimits (length ks) (length ls / 3), lineless 22) _ (omega arith) .0 (a .1) in
+      let a = verdict-cons threes _ (omega arith) .0 z in
+      let b = verdict-cons counts _ (omega arith) .0 (a .1) in
       let t = counted-iff patchLimits (length ks) (length ls / 3) .0 (b .0) in
       (t .1, t .2)
 
@@ -84,17 +96,15 @@ module _ (ks ls bytes : List ℕ) where
 
   module _ (good : verdict (listChecks ks ls) .number ≡ 0) where
     roomed : verdict (writerChecks ks ls bytes) ≡ verdict (room ∷ [])
-    roomed = verdict-rest (listChecks ks ls) (room ∷ []) (omega arith, (omega arith, (omega arith, numbered-positive {ns = writerRefusals} refl (lineChecks 20 (length ks) 0 none (linesOf ls)) (lines-numbered 20 (length ks) (has-out 24 _ refl) (has-out 25 _ refl) 0 none (linesOf ls))))) good
+    roomed = verdict-rest (listChecks ks ls) (room ∷ []) (omega arith, (omega arith, (omega arith, lines-positive 20 (length ks) 0 none (linesOf ls)))) good
 
     pub by-room : (r : WriteAnswer) (v : Verdict) → v ≡ lineless 33 → (r .number ≡ v .number) × (r .line ≡ v .line) × (r .count ≡ 0) → length bytes < byteLength (length ks) (length ls / 3) → asWritten r bytes ≡ writer ks ls bytes
-    unfolding verdict
-    by-room r v w h l = refused r v h (roomed ∙ rw (lt-leb (byteLength (length ks) (length ls / 3)) (length bytes) l) (sym w)) (λ z. omega (arith, ap (λ x. x .number) w))
+    by-room r v w h l = refused r v h (roomed ∙ verdict-fails room [] (lt-leb (byteLength (length ks) (length ls / 3)) (length bytes) l) ∙ sym w) (λ z. omega (arith, ap (λ x. x .number) w))
 
     module _ (l : byteLength (length ks) (length ls / 3) ≤ length bytes) where
       handed : WriterHanded ks ls bytes
-      unfolding verdict
       handed =
-          let z : verdict (room ∷ []) .number ≡ 0 = rw (le-leb (byteLength (length ks) (length ls / 3)) (length bytes) l) in
+          let z : verdict (room ∷ []) .number ≡ 0 = ap (λ v. v .number) (verdict-passes room [] (le-leb (byteLength (length ks) (length ls / 3)) (length bytes) l) ∙ verdict-none) in
           ⊎-elim (λ t. t .0) (λ t. absurd (omega (arith, from-11 {ns = writerRefusals} refl (t .0), ap (λ v. v .number) roomed, z))) (writer-either ks ls bytes)
 
       pub kinds-fit : KindsFit ks

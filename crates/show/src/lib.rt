@@ -1,10 +1,11 @@
-// What the programs do: the places of the figure in figure.sheet in the patch in patch.sheet, printed. Thin over the proved call `find`.
+// What the programs do: the places of the figure in figure.sheet in the patch in patch.sheet, printed, and on standard error the line that a refusal is about. Thin over the proved call `find`.
 ghost use mathlib.Core.Path.{_≡_};
 ghost use Prim.Native.Nat.{_+_, _*_, _≤_, _<_};
 ghost use lib.ListN.{length};
 ghost use Rattle.io.specs.Counts.{Counts};
 ghost use Rattle.show.specs.Numbers.{Known};
 use find::find;
+use libc::STDERR_FILENO;
 use libc::STDOUT_FILENO;
 use sheet::fields::counts;
 
@@ -66,6 +67,16 @@ pub fn print_rows(list: &[u16], rows: usize, n: usize) -> usize
     done
 }
 
+// The line that a number is about, from 0; nothing where that is 65,535.
+fn say_line(line: u16) {
+    if line == 65535 {
+        return;
+    }
+    io::write_all(STDERR_FILENO, b"line ");
+    io::print_decimal(STDERR_FILENO, line as u64);
+    io::write_all(STDERR_FILENO, b"\n");
+}
+
 // Number, rows and tries on one line, then one line a row; the number, which is one of document 01's.
 pub fn find_and_print() -> u16
     ensures { λ r. ⌜ Known r ⌝ }
@@ -82,5 +93,6 @@ pub fn find_and_print() -> u16
     print(found.tries as u64, b'\n');
     let c = counts(&figure[..n]);
     print_rows(&list, found.rows, c.vertices as usize);
+    say_line(found.line);
     found.number
 }

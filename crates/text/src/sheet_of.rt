@@ -1,8 +1,11 @@
 // A text's sheet, by the proved writer, or the refusal and the line of the text that it is about.
 ghost use Prim.Native.Nat.{_≤_};
 ghost use lib.ListN.{length};
+ghost use Rattle.rules.specs.Calls.{writer};
 ghost use Rattle.io.specs.Counts.{Counts};
+ghost use Rattle.text.specs.Sheets.{Wrote, Made};
 use crate::lists::lists;
+use sheet_writer::WriteAnswer;
 use sheet_writer::write;
 
 // 0 and the sheet's bytes, or a number and the line of the text.
@@ -24,25 +27,6 @@ fn first_wrong_kind(kinds: &[u16]) -> usize
         i += 1;
     }
     i
-}
-
-// How many lines the writer takes before the one that it refuses: the writer is asked about the first so many, halving.
-fn lines_taken(kinds: &[u16], lines: &[u16], bytes: &mut [u8]) -> usize
-    ensures { λ r. ⌜ r ≤ length (now (lines .entry)) ⌝ }
-{
-    let mut low = 0;
-    let mut high = lines.len() / 3;
-    while low < high {
-        let middle = (low + high + 1) / 2;
-        let end = 3 * middle;
-        let answer = write(kinds, &lines[..end], bytes);
-        if answer.number == 0 {
-            low = middle;
-        } else {
-            high = middle - 1;
-        }
-    }
-    3 * low
 }
 
 // The last line read where no more than so many kinds and numbers of lines are lent.
@@ -70,46 +54,32 @@ fn line_after(text: &[u8], kinds_taken: usize, numbers_taken: usize) -> usize {
     last_line(text, &mut kinds, kinds_taken, &mut lines, numbers_taken)
 }
 
-// What the writer makes of two lists, and, where it refuses an item, the line of the text on which that stands.
+// The line of the text that the writer's answer is about: that of the first kind above 63 (35), that of the line which it names, else the last.
+fn line_of(text: &[u8], kinds: &[u16], lines: &[u16], answer: WriteAnswer, last: usize) -> usize {
+    if answer.number == 35 {
+        return line_after(text, first_wrong_kind(kinds), lines.len());
+    }
+    if answer.line != 65535 {
+        return line_after(text, kinds.len(), 3 * (answer.line as usize));
+    }
+    last
+}
+
+// What the writer makes of two lists, and the line of the text that it is about.
 fn written(text: &[u8], kinds: &[u16], lines: &[u16], last: usize, bytes: &mut [u8]) -> TextSheet
-    ensures { λ r. ⌜ Counts (r .count) (now (bytes .exit)) ⌝ }
+    ensures { λ r. ⌜ Wrote (writer (now (kinds .entry)) (now (lines .entry)) (now (bytes .entry))) r (now (bytes .exit)) × Counts (r .count) (now (bytes .exit)) ⌝ }
 {
     let answer = write(kinds, lines, bytes);
-    let number = answer.number;
-    if number == 35 {
-        let taken = first_wrong_kind(kinds);
-        return TextSheet {
-            number,
-            line: line_after(text, taken, lines.len()),
-            count: 0,
-        };
-    }
-    // 24 and 25 are about one line
-    if number / 2 == 12 {
-        let taken = lines_taken(kinds, lines, bytes);
-        return TextSheet {
-            number,
-            line: line_after(text, kinds.len(), taken),
-            count: 0,
-        };
-    }
-    if bytes.len() < answer.count {
-        return TextSheet {
-            number: 33,
-            line: last,
-            count: 0,
-        };
-    }
     TextSheet {
-        number,
-        line: last,
+        number: answer.number,
+        line: line_of(text, kinds, lines, answer, last),
         count: answer.count,
     }
 }
 
 // The sheet of a text of up to 131,072 bytes.
 pub fn sheet_of(text: &[u8], bytes: &mut [u8]) -> TextSheet
-    ensures { λ r. ⌜ Counts (r .count) (now (bytes .exit)) ⌝ }
+    ensures { λ r. ⌜ Made r (now (bytes .entry)) (now (bytes .exit)) × Counts (r .count) (now (bytes .exit)) ⌝ }
 {
     let mut kinds = [0u16; 512];
     let mut lines = [0u16; 6144];

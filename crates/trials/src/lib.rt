@@ -91,6 +91,7 @@ fn lend(
     if memory.len() < size || list.len() < length {
         return Found {
             number: 999,
+            line: 65535,
             rows: 0,
             tries: 0,
         };

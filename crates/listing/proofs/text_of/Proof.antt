@@ -1,8 +1,9 @@
--- `text_of` meets its contract: the count is within the bytes. Assumes nothing.
+-- `text_of` meets its contract: number and line are those of the sheet's check, and the count is within the bytes. Assumes nothing.
 use mathlib.Core.Path.{sym}
 use lib.Seq.{length-take-le}
 use native.Mathlib.Omega.{arith}
 use borrow.Author.Needs.{needs}
+use Rattle.listing.proofs.Room.{read-with-room}
 use Rattle.listing.proofs.text_of.Statement.{statement}
 use Rattle.listing.proofs.text_of.Tie as tie
 
@@ -16,7 +17,7 @@ read-requires : tie.Need-read-requires
 read-requires c κs = search needs
 
 returns : tie.Need-returns
-returns c = search needs
+returns c = let s = read-with-room _ _ _ _ _ _ (c .before .before .before .before .read .ensures) (omega arith) (omega arith) in (s .0, s .1, search needs)
 
 cast-n : tie.Need-cast-n
 cast-n c = search needs
@@ -40,7 +41,7 @@ same-length : tie.Need-same-length
 same-length c = search needs
 
 returns-2 : tie.Need-returns-2
-returns-2 c = (search needs, sym (length-take-le _ (c .before .before .put-first-lists .last .0) (omega arith)))
+returns-2 c = let s = read-with-room _ _ _ _ _ _ (c .before .before .before .before .before .before .before .before .before .before .before .before .read .ensures) (omega arith) (omega arith) in (omega (arith, s .0), s .1, (search needs, sym (length-take-le _ (c .before .before .put-first-lists .last .0) (omega arith))))
 
 pub text-of-spec : {M : Type 1} → statement M
 text-of-spec =

@@ -70,8 +70,11 @@ cast-print-rows c = search needs
 print-rows-requires : tie.Need-print-rows-requires
 print-rows-requires c κs = search needs
 
+say-line-requires : tie.Need-say-line-requires
+say-line-requires c κs = search needs
+
 returns : tie.Need-returns
-returns c = known _ _ _ _ _ _ _ _ (c .before .before .before .before .before .before .before .before .before .before .before .before .find .ensures)
+returns c = known _ _ _ _ _ _ _ _ (c .before .before .before .before .before .before .before .before .before .before .before .before .before .find .ensures)
 
 pub find-and-print-spec : {M : Type 1} → statement M
 find-and-print-spec =
@@ -99,4 +102,5 @@ find-and-print-spec =
     slice-aggregate-print-rows
     cast-print-rows
     print-rows-requires
+    say-line-requires
     returns)

@@ -1,7 +1,9 @@
--- `sheet_of` meets its contract: the parts lent are as long as they are said to be. Assumes nothing.
-use mathlib.Core.Path.{sym}
+-- `sheet_of` meets its contract: a refusal changes nothing, and what is made is the writer's. Assumes nothing.
+use mathlib.Core.Path.{refl, sym}
+use native.Mathlib.Omega.{arith}
 use lib.Seq.{length-take-le}
 use borrow.Author.Needs.{needs}
+use Rattle.text.proofs.Sheets.{made, unmade}
 use Rattle.text.proofs.sheet_of.sheet_of.Statement.{statement}
 use Rattle.text.proofs.sheet_of.sheet_of.Tie as tie
 
@@ -15,10 +17,10 @@ lists-requires : tie.Need-lists-requires
 lists-requires c κs = search needs
 
 returns : tie.Need-returns
-returns c = search needs
+returns c = (unmade _ (c .before .before .before .before .before .before .before .before .before .args .bytes .now) (λ z. omega arith) refl, search needs)
 
 returns-2 : tie.Need-returns-2
-returns-2 c = search needs
+returns-2 c = (unmade _ (c .before .before .before .before .before .before .before .before .before .before .args .bytes .now) (λ z. omega arith) refl, search needs)
 
 array-share-prefix-kinds : tie.Need-array-share-prefix-kinds
 array-share-prefix-kinds c = search needs
@@ -39,7 +41,7 @@ same-length : tie.Need-same-length
 same-length c = search needs
 
 returns-3 : tie.Need-returns-3
-returns-3 c = search needs
+returns-3 c = let e = c .before .before .written .ensures in (made _ _ _ _ _ (e .0), e .1)
 
 pub sheet-of-spec : {M : Type 1} → statement M
 sheet-of-spec =

@@ -1,0 +1,2 @@
+-- The law of a reader with room for any sheet.
+pub mod Room

@@ -1,0 +1,2 @@
+-- The law of what the writer counts.
+pub mod Sheets

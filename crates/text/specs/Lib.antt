@@ -1,0 +1,2 @@
+-- What the contract of a text's sheet cites.
+pub mod Sheets
