@@ -9,6 +9,10 @@
  *
  * A sheet is bit-packed, most significant bit first: n (10 bits), m (12), n kinds (6 each), m lines
  * of type (2), first end (9), second end (9), then zero bits to the end of the last byte.
+ *
+ * Every answer has a line. With 14, 15, 24 and 25 it is the number of the offending line, counted from
+ * 0: the first line of that sheet, or of the writer's line list, whose check fails, so that every
+ * line before it is good. In every other answer, accepted ones too, it is GELQUORIST_NO_LINE.
  */
 #ifndef GELQUORIST_H
 #define GELQUORIST_H
@@ -48,11 +52,13 @@ enum {
 
 enum {
     GELQUORIST_MEMORY_LENGTH = 22528, /* the least working memory, in 16-bit numbers */
-    GELQUORIST_SHEET_LENGTH = 5507    /* the longest sheet, in bytes */
+    GELQUORIST_SHEET_LENGTH = 5507,   /* the longest sheet, in bytes */
+    GELQUORIST_NO_LINE = 65535        /* the line of an answer that is about no line */
 };
 
 struct gelquorist_found {
     uint16_t number; /* 0, 1, 2, 11 to 16, 21 to 25 or 31 */
+    uint16_t line;   /* of the figure with 14 and 15, of the patch with 24 and 25; else 65535 */
     size_t rows;     /* rows written */
     uint32_t tries;  /* tries spent, at most the allowance */
 };
@@ -73,6 +79,8 @@ struct gelquorist_found {
  *   difference.
  * - From 11 up, rows and tries are 0 and nothing lent is changed. Order: the figure's checks, the
  *   patch's, then 31 where memory_length is below 22528.
+ * - line: the first line of the figure (14, 15) or of the patch (24, 25) whose check fails, counted
+ *   from 0; 65535 with every other number.
  */
 struct gelquorist_found gelquorist_find(const uint8_t *figure, size_t figure_length,
                                         const uint8_t *patch, size_t patch_length,
@@ -82,6 +90,7 @@ struct gelquorist_found gelquorist_find(const uint8_t *figure, size_t figure_len
 
 struct gelquorist_checked {
     uint16_t number; /* 0, 11 to 16, 21 to 25 or 42 to 44 */
+    uint16_t line;   /* of the figure with 14 and 15, of the patch with 24 and 25; else 65535 */
     size_t row;      /* the first bad row, counted from 0; 0 in every answer but 43 and 44 */
 };
 
@@ -93,6 +102,7 @@ struct gelquorist_checked {
  *   equal to an earlier row. Every row before it is a place, and no two of those are equal.
  * - Order: the figure's checks, the patch's, 42 where rows_length is no multiple of the figure's n,
  *   then row by row 43 before 44.
+ * - line: as said of gelquorist_find; 65535 with 42, 43 and 44.
  * - Whatever gelquorist_find lists is accepted: rows * n numbers of its list after 0, 1 or 2.
  * - Nothing lent is written, and no memory is asked for: the call uses some 45,000 bytes of the
  *   stack.
@@ -103,6 +113,7 @@ struct gelquorist_checked gelquorist_check_rows(const uint8_t *figure, size_t fi
 
 struct gelquorist_read {
     uint16_t number;   /* 0, 21 to 25 or 33 */
+    uint16_t line;     /* of the sheet with 24 and 25; else 65535 */
     uint16_t vertices; /* n */
     uint16_t lines;    /* m */
 };
@@ -113,6 +124,8 @@ struct gelquorist_read {
  *   second end of each line, and nothing else is changed. gelquorist_write gives the same sheet back.
  * - Otherwise vertices and lines are 0 and nothing is changed. Checks: 21 to 25, then 33 where kinds
  *   holds fewer than n or lines fewer than 3m numbers.
+ * - line: the first line of the sheet whose check fails (24, 25), counted from 0; 65535 with every
+ *   other number.
  */
 struct gelquorist_read gelquorist_read(const uint8_t *sheet, size_t sheet_length,
                                        uint16_t *kinds, size_t kinds_length,
@@ -120,6 +133,7 @@ struct gelquorist_read gelquorist_read(const uint8_t *sheet, size_t sheet_length
 
 struct gelquorist_written {
     uint16_t number; /* 0, 22, 24, 25, 33, 34 or 35 */
+    uint16_t line;   /* of the line list with 24 and 25; else 65535 */
     size_t count;    /* bytes written */
 };
 
@@ -129,6 +143,8 @@ struct gelquorist_written {
  *   the same kinds and lines back.
  * - Otherwise count is 0 and nothing is changed. Checks: 34, 22, 35, then 24 and 25 line by line,
  *   then 33 where bytes_length is below the sheet's length.
+ * - line: the first line of the list whose check fails (24, 25), counted from 0 in lines, three
+ *   numbers each; 65535 with every other number.
  */
 struct gelquorist_written gelquorist_write(const uint16_t *kinds, size_t kinds_length,
                                            const uint16_t *lines, size_t lines_length,

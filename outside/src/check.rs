@@ -1,18 +1,20 @@
-//! The numbers that come back for a sheet, and the reader and the writer, from document 01's
-//! sections "The sheet" and "Numbers that come back". Bits are read one by one.
+//! The numbers that come back for a sheet, the line that 14, 15, 24 and 25 are about, and the reader
+//! and the writer, from document 01's sections "The sheet" and "Numbers that come back" and document
+//! 02's Wish 6. Bits are read one by one; the offending line is the first of a list of all bad lines.
 
-use crate::calls::{Read, Written};
+use crate::calls::{lineless, Read, Refusal, Written, NO_LINE};
 use crate::sheet::{encode, Graph, Line};
 
-/// The table of counts: the most vertices and the most lines.
+/// The table of counts: the most vertices and the most lines; and the tens of the numbers.
 #[derive(Clone, Copy)]
 pub struct Limits {
     pub n: usize,
     pub m: usize,
+    tens: u16,
 }
 
-pub const FIGURE: Limits = Limits { n: 32, m: 64 };
-pub const PATCH: Limits = Limits { n: 512, m: 2_048 };
+pub const FIGURE: Limits = Limits { n: 32, m: 64, tens: 10 };
+pub const PATCH: Limits = Limits { n: 512, m: 2_048, tens: 20 };
 
 fn bit(bytes: &[u8], at: usize) -> usize {
     (bytes[at / 8] >> (7 - at % 8) & 1) as usize
@@ -38,38 +40,51 @@ fn line_fault(line: Line, before: Option<Line>, n: usize) -> Option<u16> {
     }
 }
 
-/// What a sheet says, or the second digit of the number it gets.
-pub fn sheet(bytes: &[u8], limits: Limits) -> Result<Graph, u16> {
+/// Every line that fails a check, in order: its number, counted from 0, and the second digit it gets.
+pub fn bad_lines(graph: &Graph) -> Vec<(usize, u16)> {
+    let before = |i: usize| if i == 0 { None } else { Some(graph.lines[i - 1]) };
+    let fault = |i: usize| line_fault(graph.lines[i], before(i), graph.n()).map(|digit| (i, digit));
+    (0..graph.lines.len()).filter_map(fault).collect()
+}
+
+/// The refusal of a graph's lines, if any: it is about the first bad one.
+fn line_refusal(graph: &Graph, limits: Limits) -> Result<(), Refusal> {
+    match bad_lines(graph).first() {
+        Some(&(line, digit)) => Err(Refusal { number: limits.tens + digit, line: line as u16 }),
+        None => Ok(()),
+    }
+}
+
+/// What a sheet says whose length, counts and filling are right, be its lines good or bad.
+pub fn unlined(bytes: &[u8], limits: Limits) -> Result<Graph, Refusal> {
+    let refused = |digit: u16| Err(lineless(limits.tens + digit));
     if bytes.len() < 3 {
-        return Err(1);
+        return refused(1);
     }
     let n = field(bytes, 0, 10);
     let m = field(bytes, 10, 12);
     if !counts_fit(n, m, limits) {
-        return Err(2);
+        return refused(2);
     }
     let used = 22 + 6 * n + 20 * m;
     if bytes.len() != (used + 7) / 8 {
-        return Err(1);
+        return refused(1);
     }
     if (used..8 * bytes.len()).any(|at| bit(bytes, at) == 1) {
-        return Err(3);
+        return refused(3);
     }
     let kinds = (0..n).map(|i| field(bytes, 22 + 6 * i, 6) as u16).collect();
-    let mut lines: Vec<Line> = Vec::new();
-    for i in 0..m {
-        let from = 22 + 6 * n + 20 * i;
-        let line = (
-            field(bytes, from, 2) as u16,
-            field(bytes, from + 2, 9) as u16,
-            field(bytes, from + 11, 9) as u16,
-        );
-        if let Some(fault) = line_fault(line, lines.last().copied(), n) {
-            return Err(fault);
-        }
-        lines.push(line);
-    }
+    let part = |from: usize, width: usize| field(bytes, from, width) as u16;
+    let line = |from: usize| (part(from, 2), part(from + 2, 9), part(from + 11, 9));
+    let lines = (0..m).map(|i| line(22 + 6 * n + 20 * i)).collect();
     Ok(Graph { kinds, lines })
+}
+
+/// What a sheet says, or its refusal.
+fn sheet(bytes: &[u8], limits: Limits) -> Result<Graph, Refusal> {
+    let graph = unlined(bytes, limits)?;
+    line_refusal(&graph, limits)?;
+    Ok(graph)
 }
 
 /// Whether every vertex is reached from vertex 0.
@@ -90,65 +105,64 @@ pub fn connected(graph: &Graph) -> bool {
 }
 
 /// The figure of a sheet, or 11 to 16.
-pub fn figure(bytes: &[u8]) -> Result<Graph, u16> {
-    let graph = sheet(bytes, FIGURE).map_err(|digit| 10 + digit)?;
+pub fn figure(bytes: &[u8]) -> Result<Graph, Refusal> {
+    let graph = sheet(bytes, FIGURE)?;
     if connected(&graph) {
         Ok(graph)
     } else {
-        Err(16)
+        Err(lineless(16))
     }
 }
 
 /// The patch of a sheet, or 21 to 25.
-pub fn patch(bytes: &[u8]) -> Result<Graph, u16> {
-    sheet(bytes, PATCH).map_err(|digit| 20 + digit)
+pub fn patch(bytes: &[u8]) -> Result<Graph, Refusal> {
+    sheet(bytes, PATCH)
 }
 
 pub fn read(bytes: &[u8], kinds: &mut [u16], lines: &mut [u16]) -> Read {
     let graph = match patch(bytes) {
         Ok(graph) => graph,
-        Err(number) => return Read::refused(number),
+        Err(why) => return Read::refused(why),
     };
     let list = graph.line_list();
     if kinds.len() < graph.n() || lines.len() < list.len() {
-        return Read::refused(33);
+        return Read::refused(lineless(33));
     }
     kinds[..graph.n()].copy_from_slice(&graph.kinds);
     lines[..list.len()].copy_from_slice(&list);
-    Read { number: 0, vertices: graph.n() as u16, lines: graph.lines.len() as u16 }
+    Read { number: 0, line: NO_LINE, vertices: graph.n() as u16, lines: graph.lines.len() as u16 }
 }
 
-/// What the writer is to write, or its number.
-fn written(kinds: &[u16], lines: &[u16]) -> Result<Graph, u16> {
+/// What two lists say, be the lines good or bad.
+pub fn listed(kinds: &[u16], lines: &[u16]) -> Graph {
+    Graph { kinds: kinds.to_vec(), lines: lines.chunks_exact(3).map(|l| (l[0], l[1], l[2])).collect() }
+}
+
+/// What the writer is to write, or its refusal.
+fn written(kinds: &[u16], lines: &[u16]) -> Result<Graph, Refusal> {
     if lines.len() % 3 != 0 {
-        return Err(34);
+        return Err(lineless(34));
     }
-    let n = kinds.len();
-    if !counts_fit(n, lines.len() / 3, PATCH) {
-        return Err(22);
+    if !counts_fit(kinds.len(), lines.len() / 3, PATCH) {
+        return Err(lineless(22));
     }
     if kinds.iter().any(|&kind| kind > 63) {
-        return Err(35);
+        return Err(lineless(35));
     }
-    let all: Vec<Line> = lines.chunks(3).map(|l| (l[0], l[1], l[2])).collect();
-    for (i, &line) in all.iter().enumerate() {
-        let before = if i == 0 { None } else { Some(all[i - 1]) };
-        if let Some(fault) = line_fault(line, before, n) {
-            return Err(20 + fault);
-        }
-    }
-    Ok(Graph { kinds: kinds.to_vec(), lines: all })
+    let graph = listed(kinds, lines);
+    line_refusal(&graph, PATCH)?;
+    Ok(graph)
 }
 
 pub fn write(kinds: &[u16], lines: &[u16], bytes: &mut [u8]) -> Written {
     let graph = match written(kinds, lines) {
         Ok(graph) => graph,
-        Err(number) => return Written::refused(number),
+        Err(why) => return Written::refused(why),
     };
     let sheet = encode(&graph);
     if bytes.len() < sheet.len() {
-        return Written::refused(33);
+        return Written::refused(lineless(33));
     }
     bytes[..sheet.len()].copy_from_slice(&sheet);
-    Written { number: 0, count: sheet.len() }
+    Written { number: 0, line: NO_LINE, count: sheet.len() }
 }

@@ -3,15 +3,32 @@
 use crate::random::Random;
 use crate::sheet::{encode, encode_counted, Graph};
 
-/// Damages what a sheet says and encodes it; the length then fits the damage.
+/// One of `count` lines: often the first or the last, since a count of lines goes wrong there.
+fn spot(random: &mut Random, count: usize) -> usize {
+    match random.below(6) {
+        0 => 0,
+        1 => count - 1,
+        _ => random.below(count),
+    }
+}
+
+/// Damages what a sheet says in one or two places and encodes it; the length then fits the damage.
 fn within(random: &mut Random, graph: &Graph) -> Vec<u8> {
     let mut g = graph.clone();
+    for _ in 0..random.between(1, 2) {
+        line(random, &mut g);
+    }
+    encode(&g)
+}
+
+/// Damages one line of a graph, or gives it one.
+fn line(random: &mut Random, g: &mut Graph) {
     let m = g.lines.len();
     if m == 0 {
         g.lines.push((random.below(4) as u16, random.below(512) as u16, random.below(512) as u16));
-        return encode(&g);
+        return;
     }
-    let i = random.below(m);
+    let i = spot(random, m);
     match random.below(8) {
         0 => g.lines[i].0 = 3,
         1 => g.lines[i].1 = g.lines[i].2,
@@ -22,7 +39,6 @@ fn within(random: &mut Random, graph: &Graph) -> Vec<u8> {
         6 => drop(g.lines.remove(i)),
         _ => g.lines[i] = (g.lines[i].0, random.below(g.n()) as u16, random.below(g.n()) as u16),
     }
-    encode(&g)
 }
 
 /// Changes the counts, with or without a length that fits them.
@@ -85,17 +101,18 @@ pub fn lists(random: &mut Random, graph: &Graph) -> (Vec<u16>, Vec<u16>) {
             3 => kinds.resize(*random.pick(&[0, 1, 511, 512, 513, 1_025]), 7),
             4 => lines.resize(3 * *random.pick(&[0, 1, 2_048, 2_049]), 1),
             5..=6 if !lines.is_empty() => {
-                let i = random.below(lines.len());
+                let i = 3 * spot(random, (lines.len() + 2) / 3) + random.below(3);
+                let i = i.min(lines.len() - 1);
                 lines[i] = *random.pick(&[0, 1, 2, 3, 4, 511, 512, 513, 1_024, 16_384, 65_535, kinds.len() as u16]);
             }
             7 if lines.len() >= 6 => {
-                let (i, j) = (random.below(lines.len() / 3), random.below(lines.len() / 3));
+                let (i, j) = (spot(random, lines.len() / 3), random.below(lines.len() / 3));
                 for k in 0..3 {
                     lines[3 * i + k] = lines[3 * j + k];
                 }
             }
             _ if lines.len() >= 3 => {
-                let i = 3 * random.below(lines.len() / 3);
+                let i = 3 * spot(random, lines.len() / 3);
                 lines.swap(i + 1, i + 2);
             }
             _ => (),

@@ -1,8 +1,10 @@
 //! The comparisons. Each part draws cases from a printed seed, asks one implementation and the
 //! independent ones, and counts every disagreement; nothing is taken on trust from the one asked.
 
-use crate::calls::{Calls, Checked, Found, MEMORY};
+use crate::calls::{Calls, Checked, Found, Read, Written, MEMORY, NO_LINE};
+use crate::line_benches::line_benches;
 use crate::model::{self, Model};
+use crate::offending::Offending;
 use crate::random::Random;
 use crate::sheet::{encode, Graph};
 use crate::{check, damage, graphs, matcher};
@@ -33,6 +35,8 @@ pub struct Evidence<'a> {
     dirt: Vec<u16>,
     pub faults: BTreeMap<&'static str, u64>,
     pub counts: BTreeMap<(&'static str, u16), u64>,
+    /// The lines named, by call and number.
+    pub offending: BTreeMap<(&'static str, u16), Offending>,
     pub notes: BTreeMap<&'static str, u64>,
     pub largest: BTreeMap<&'static str, u64>,
 }
@@ -45,7 +49,16 @@ impl<'a> Evidence<'a> {
     pub fn new(calls: &'a (dyn Calls + Sync), seed: u64) -> Evidence<'a> {
         let mut random = Random::new(seed);
         let dirt = (0..1 << 18).map(|_| random.next() as u16).collect();
-        Evidence { calls, random, dirt, faults: BTreeMap::new(), counts: BTreeMap::new(), notes: BTreeMap::new(), largest: BTreeMap::new() }
+        Evidence {
+            calls,
+            random,
+            dirt,
+            faults: BTreeMap::new(),
+            counts: BTreeMap::new(),
+            offending: BTreeMap::new(),
+            notes: BTreeMap::new(),
+            largest: BTreeMap::new(),
+        }
     }
 
     /// Dirty 16-bit numbers, as a caller may lend them.
@@ -79,6 +92,27 @@ impl<'a> Evidence<'a> {
         *self.counts.entry((part, number)).or_insert(0) += 1;
     }
 
+    /// Counts the line that an answer about this graph named, if it named one.
+    fn count_line(&mut self, call: &'static str, number: u16, line: u16, graph: &Graph) {
+        let bad = check::bad_lines(graph).len();
+        self.offending.entry((call, number)).or_default().add(line as usize, graph.lines.len(), bad);
+    }
+
+    /// The same for an answer about two sheets: from 20 on it is about the second.
+    fn count_line_of_two(&mut self, call: &'static str, number: u16, line: u16, figure: &[u8], patch: &[u8]) {
+        if line != NO_LINE {
+            let about = if number < 20 { check::unlined(figure, check::FIGURE) } else { check::unlined(patch, check::PATCH) };
+            self.count_line(call, number, line, &about.unwrap());
+        }
+    }
+
+    /// An answer of a call that is not compared with the model's, on sheets that are accepted.
+    fn expect_no_line(&mut self, call: &'static str, line: u16) {
+        if line != NO_LINE {
+            self.fault("a line in an answer that is about none", &format!("{call}: {line}"));
+        }
+    }
+
     /// One call beside the model's: the answer, every list number, all the memory, and the guards.
     fn compare(&mut self, part: &'static str, case: &Case) -> (Found, Vec<u16>) {
         let memory = self.dirt(case.memory + 2 * GUARD);
@@ -92,6 +126,7 @@ impl<'a> Evidence<'a> {
         let got = run(self.calls);
         let expected = run(&Model);
         self.count(part, expected.0.number);
+        self.count_line_of_two("search", expected.0.number, expected.0.line, case.figure, case.patch);
         if got != expected {
             let about = format!(
                 "{part}: figure {} patch {} memory {} list {} allowance {}: got {:?}, expected {:?}; memory {}, list {}",
@@ -150,6 +185,9 @@ impl<'a> Evidence<'a> {
     pub fn join(&mut self, other: Evidence) {
         for (&key, count) in &other.counts {
             *self.counts.entry(key).or_insert(0) += count;
+        }
+        for (&key, lines) in &other.offending {
+            self.offending.entry(key).or_default().join(lines);
         }
         for (&what, count) in &other.faults {
             *self.faults.entry(what).or_insert(0) += count;
@@ -214,6 +252,9 @@ impl<'a> Evidence<'a> {
         };
         let (got, expected) = (run(self.calls), run(&Model));
         self.count("reader", expected.0.number);
+        if expected.0.line != NO_LINE {
+            self.count_line("reader", expected.0.number, expected.0.line, &check::unlined(sheet, check::PATCH).unwrap());
+        }
         if got != expected {
             let about = format!("sheet {} lists {kinds} {lines}: got {:?}, expected {:?}", hex(sheet), got.0, expected.0);
             self.fault("the reader", &about);
@@ -231,6 +272,9 @@ impl<'a> Evidence<'a> {
         };
         let (got, expected) = (run(self.calls), run(&Model));
         self.count("writer", expected.0.number);
+        if expected.0.line != NO_LINE {
+            self.count_line("writer", expected.0.number, expected.0.line, &check::listed(kinds, lines));
+        }
         if got != expected {
             let about = format!("kinds {kinds:?} lines {lines:?} room {room}: got {:?}, expected {:?}", got.0, expected.0);
             self.fault("the writer", &about);
@@ -254,6 +298,8 @@ impl<'a> Evidence<'a> {
         let (n, m) = (read.vertices as usize, 3 * read.lines as usize);
         let mut again = vec![0x5a; 5_507];
         let back = self.calls.write(&k[..n], &l[..m], &mut again);
+        self.expect_no_line("writer", written.line);
+        self.expect_no_line("reader", read.line);
         let whole = written.number == 0 && read.number == 0 && k[..n] == kinds[..] && l[..m] == lines[..];
         let same = back == written && again[..back.count] == bytes[..written.count] && bytes[..written.count] == encode(graph)[..];
         if !whole || !same {
@@ -275,6 +321,7 @@ impl<'a> Evidence<'a> {
         let got = self.calls.check_rows(figure, patch, rows);
         let expected = Model.check_rows(figure, patch, rows);
         self.count(part, expected.number);
+        self.count_line_of_two("check of rows", expected.number, expected.line, figure, patch);
         if got != expected {
             let about = format!("{part}: figure {} patch {} rows {rows:?}: got {got:?}, expected {expected:?}", hex(figure), hex(patch));
             self.fault("the check of rows", &about);
@@ -288,7 +335,7 @@ impl<'a> Evidence<'a> {
         let (f, p) = (encode(figure), encode(patch));
         let own = self.rows(&f, &p, tries as usize, n, tries).1;
         self.most("rows in a list", (own.len() / n) as u64);
-        if self.compare_rows("rows, own", &f, &p, &own) != Checked::refused(0) {
+        if self.compare_rows("rows, own", &f, &p, &own) != Checked::accepted() {
             self.fault("a list of the search is accepted", &format!("{} {}", hex(&f), hex(&p)));
         }
         let shuffled = self.shuffled_rows(&own, n);
@@ -398,6 +445,7 @@ impl<'a> Evidence<'a> {
     fn rows(&mut self, figure: &[u8], patch: &[u8], room: usize, n: usize, allowance: u32) -> (Found, Vec<u16>) {
         let (mut memory, mut list) = (self.dirt(MEMORY), self.dirt(room * n));
         let found = self.calls.find(figure, patch, &mut memory, &mut list, allowance);
+        self.expect_no_line("search", found.line);
         list.truncate(found.rows * n);
         (found, list)
     }
@@ -447,19 +495,51 @@ impl<'a> Evidence<'a> {
             let case = Case { figure: &bench.figure, patch: &bench.patch, memory: bench.memory, list: bench.room * n, allowance: bench.allowance };
             let (found, list) = self.compare("benches", &case);
             let rows = &list[..found.rows * n];
-            if (found.number, found.tries) != (bench.number, bench.tries) || rows != &bench.rows[..] {
+            if (found.number, found.line, found.tries) != (bench.number, 65_535, bench.tries) || rows != &bench.rows[..] {
                 self.fault("a bench", &format!("{}: {found:?} {rows:?}", bench.name));
             }
         }
         let a = [0x00, 0x80, 0x04, 0x10, 0x90, 0x00, 0x04];
         let mut bytes = [0xff; 8];
         let written = self.calls.write(&[1, 2], &[1, 0, 1], &mut bytes);
-        if written.number != 0 || written.count != 7 || bytes[..7] != a || bytes[7] != 0xff {
+        if written != (Written { number: 0, line: 65_535, count: 7 }) || bytes[..7] != a || bytes[7] != 0xff {
             self.fault("bench a", &format!("{written:?} {bytes:02x?}"));
         }
         let read = self.calls.read(&[0x00, 0x40, 0x00, 0x51], &mut [0; 9], &mut [0; 9]);
-        if read.number != 23 {
+        if read != (Read { number: 23, line: 65_535, vertices: 0, lines: 0 }) {
             self.fault("bench b", &format!("{read:?}"));
+        }
+    }
+
+    /// Sheets with bad lines, each with the line that every call must name; with a filling bit set, none.
+    pub fn line_benches(&mut self) {
+        for bench in line_benches() {
+            let mut sheet = encode(&bench.graph);
+            self.line_bench(bench.name, &sheet, bench.figure, bench.patch);
+            let written = self.calls.write(&bench.graph.kinds, &bench.graph.line_list(), &mut [9; 5_507]);
+            if (written.number, written.line) != bench.patch {
+                self.fault("a bad line for the writer", &format!("{}: {written:?}", bench.name));
+            }
+            // Each of these sheets has filling bits.
+            *sheet.last_mut().unwrap() |= 1;
+            let figure = if bench.figure.0 == 12 { bench.figure } else { (13, 65_535) };
+            self.line_bench(bench.name, &sheet, figure, (23, 65_535));
+        }
+    }
+
+    /// A sheet's number and line as figure, with a good patch and with itself, and as patch.
+    fn line_bench(&mut self, name: &str, sheet: &[u8], figure: (u16, u16), patch: (u16, u16)) {
+        let good = &encode(&graph(&[1, 1], &[(0, 1)]))[..];
+        for (f, p, expected) in [(sheet, good, figure), (sheet, sheet, figure), (good, sheet, patch)] {
+            let found = self.compare("bad lines", &Case { figure: f, patch: p, memory: MEMORY, list: 9, allowance: 9 }).0;
+            let checked = self.compare_rows("rows, bad lines", f, p, &[0, 1]);
+            if (found.number, found.line) != expected || (checked.number, checked.line) != expected {
+                self.fault("a bad line for the search and the check of rows", &format!("{name}: {found:?} {checked:?}, not {expected:?}"));
+            }
+        }
+        let read = self.calls.read(sheet, &mut [9; 512], &mut [9; 3 * 2_048]);
+        if (read.number, read.line) != patch {
+            self.fault("a bad line for the reader", &format!("{name}: {read:?}, not {patch:?}"));
         }
     }
 }
@@ -588,10 +668,10 @@ fn near_length(random: &mut Random, length: usize) -> usize {
 }
 
 fn small_figure(random: &mut Random) -> Graph {
-    let n = random.between(1, 12);
+    let (n, more) = if random.chance(5) { (random.between(1, 32), 34) } else { (random.between(1, 12), 5) };
     let size = random.between(1, 4);
     let pool = graphs::pool(random, size);
-    let m = n - 1 + random.below(5);
+    let m = n - 1 + random.below(more);
     graphs::connected(random, n, m, &pool)
 }
 

@@ -1,7 +1,7 @@
 //! The check of rows written for speed: runs of neighbours, one stamp a patch vertex, and a set of the
 //! rows met.
 
-use crate::calls::Checked;
+use crate::calls::{lineless, Checked};
 use crate::check;
 use crate::sheet::Graph;
 use std::collections::HashSet;
@@ -28,27 +28,24 @@ impl Test<'_> {
 }
 
 pub fn check_rows(figure: &[u8], patch: &[u8], rows: &[u16]) -> Checked {
-    let figure = match check::figure(figure) {
-        Ok(graph) => graph,
-        Err(number) => return Checked::refused(number),
-    };
-    let patch = match check::patch(patch) {
-        Ok(graph) => graph,
-        Err(number) => return Checked::refused(number),
+    let sheets = check::figure(figure).and_then(|f| check::patch(patch).map(|p| (f, p)));
+    let (figure, patch) = match sheets {
+        Ok(both) => both,
+        Err(why) => return Checked::refused(why),
     };
     let n = figure.n();
     if rows.len() % n != 0 {
-        return Checked::refused(42);
+        return Checked::refused(lineless(42));
     }
     let mut test = Test { figure: &figure, patch: &patch, runs: patch.live().neighbours(), stamps: vec![0; patch.n()] };
     let mut met = HashSet::with_capacity(rows.len() / n);
     for (i, row) in rows.chunks(n).enumerate() {
         if !test.is_place(row, i) {
-            return Checked { number: 43, row: i };
+            return Checked::bad_row(43, i);
         }
         if !met.insert(row) {
-            return Checked { number: 44, row: i };
+            return Checked::bad_row(44, i);
         }
     }
-    Checked::refused(0)
+    Checked::accepted()
 }

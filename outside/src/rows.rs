@@ -1,7 +1,7 @@
 //! The check of rows from document 02's words alone: every row is a place, and no two rows are equal.
 //! A place is tested entry by entry and line by line, and a row is compared with every earlier one.
 
-use crate::calls::Checked;
+use crate::calls::{lineless, Checked};
 use crate::check;
 use crate::sheet::Graph;
 
@@ -16,24 +16,24 @@ fn is_place(figure: &Graph, patch: &Graph, row: &[u16]) -> bool {
 pub fn check_rows(figure: &[u8], patch: &[u8], rows: &[u16]) -> Checked {
     let figure = match check::figure(figure) {
         Ok(graph) => graph,
-        Err(number) => return Checked::refused(number),
+        Err(why) => return Checked::refused(why),
     };
     let patch = match check::patch(patch) {
         Ok(graph) => graph,
-        Err(number) => return Checked::refused(number),
+        Err(why) => return Checked::refused(why),
     };
     let n = figure.n();
     if rows.len() % n != 0 {
-        return Checked::refused(42);
+        return Checked::refused(lineless(42));
     }
     let all: Vec<&[u16]> = rows.chunks(n).collect();
     for (i, row) in all.iter().enumerate() {
         if !is_place(&figure, &patch, row) {
-            return Checked { number: 43, row: i };
+            return Checked::bad_row(43, i);
         }
         if all[..i].contains(row) {
-            return Checked { number: 44, row: i };
+            return Checked::bad_row(44, i);
         }
     }
-    Checked::refused(0)
+    Checked::accepted()
 }

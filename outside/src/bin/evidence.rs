@@ -40,11 +40,22 @@ fn report(evidence: &Evidence) {
         print!(" {number}: {count},");
     }
     println!();
+    report_lines(evidence);
     for (what, count) in &evidence.notes {
         println!("{what}: {count}");
     }
     let largest: Vec<String> = evidence.largest.iter().map(|(what, value)| format!("{what} {value}")).collect();
     println!("most: {}", largest.join(", "));
+}
+
+/// Which answers named a line, by call and number, and how many named none.
+fn report_lines(evidence: &Evidence) {
+    for ((call, number), lines) in &evidence.offending {
+        println!("lines named by the {call} with {number}: {lines}");
+    }
+    let cases: u64 = evidence.counts.values().sum();
+    let named: u64 = evidence.offending.values().map(|lines| lines.count()).sum();
+    println!("answers that named a line: {named}; that named none, 65,535: {}", cases - named);
 }
 
 /// One worker's share of every part.
@@ -79,6 +90,7 @@ fn main() {
         let other = scope.spawn(|| share(calls, seed + 1, halves));
         let mut own = Evidence::new(calls, seed);
         own.benches();
+        own.line_benches();
         own.lengths();
         own.join(share(calls, seed, halves));
         (own, other.join().unwrap())
