@@ -104,7 +104,7 @@ struct gelquorist_checked {
  *   then row by row 43 before 44.
  * - line: as said of gelquorist_find; 65535 with 42, 43 and 44.
  * - Whatever gelquorist_find lists is accepted: rows * n numbers of its list after 0, 1 or 2.
- * - Nothing lent is written, and no memory is asked for: the call uses some 45,000 bytes of the
+ * - Nothing lent is written, and no memory is asked for: the call uses some 48,000 bytes of the
  *   stack.
  */
 struct gelquorist_checked gelquorist_check_rows(const uint8_t *figure, size_t figure_length,
