@@ -1,16 +1,15 @@
 -- What the loaded figure and patch are tested against. Assumes nothing.
-use Prim.Native.Nat.{ℕ, _/_, _≤_}
+use Prim.Native.Nat.{ℕ, _/_}
 use mathlib.Core.Path.{_≡_, ap, sym, subst}
 use mathlib.Core.List.{List}
 use lib.ListN.{length}
-use Rattle.rules.specs.Checks.{Accepted, figureLimits, patchLimits}
+use Rattle.rules.specs.Checks.{Accepted, figureLimits}
 use Rattle.rules.specs.Place.{Patch}
-use Rattle.rules.specs.Calls.{figureOf, patchOf}
+use Rattle.rules.specs.Calls.{figureOf}
 use Rattle.rules.specs.RowCheck.{rowCount, RowsTested}
 use Rattle.rules.proofs.Accepted.{figure-drawn}
 use Rattle.figure.specs.FigureTables.{HoldsFigure}
-use Rattle.patch.specs.Tables.{Holds, tablesOf}
-use Rattle.patch.proofs.Held.{loaded-holds}
+use Rattle.patch.specs.Tables.{Holds}
 use Rattle.row_check.specs.Against.{HoldsEnds, Against}
 
 module _ (f : List ℕ) (A : Accepted figureLimits f) (n m : ℕ) (kinds near degrees first second : List ℕ) (H : HoldsFigure (figureOf f) n kinds near degrees) (E : HoldsEnds (figureOf f) first second m) where
@@ -30,7 +29,3 @@ module _ (f : List ℕ) (A : Accepted figureLimits f) (n m : ℕ) (kinds near de
   -- the rows are counted by the figure's vertices
   pub counted-rows : (P : Patch) (rows : List ℕ) (k i : ℕ) → RowsTested (figureOf f) P rows (length rows / n) k i → RowsTested (figureOf f) P rows (rowCount f rows) k i
   counted-rows P rows k i = subst (λ c. RowsTested (figureOf f) P rows c k i) (ap (λ x. length rows / x) (sym (H .lined .sized)))
-
--- the tables after loading hold the patch
-pub loaded : (p t : List ℕ) (len : ℕ) → Accepted patchLimits p → 5_122 ≤ len → t ≡ tablesOf (patchOf p) len → Holds (patchOf p) t
-loaded p t len A long e = rw e (loaded-holds p A len long)

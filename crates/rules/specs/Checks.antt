@@ -76,6 +76,17 @@ pub record Drawable (n : ℕ) (ls : List Line) : Type 0 where
   pub fit : (l : Line) → List·Memᴰ l ls → (l .type ≤ 2) × (l .first < l .second) × (l .second < n)
   pub ascend : Ordered (λ k l. comesAfter k l ≡ true) ls
 
+-- line j of lines among n vertices is the offending one, the first whose check fails: a sheet may have the lines before it, and not those and it
+pub record Offending (n : ℕ) (ls : List Line) (j : ℕ) : Type 0 where
+  pub there : j < length ls
+  pub before : Drawable n (take j ls)
+  pub fails : Drawable n (take (suc j) ls) → ⊥
+
+-- what the line beside a number tells where a sheet's lines are checked: the offending one with ten + 4 and ten + 5, none with any other number
+pub data LineTold (ten n : ℕ) (ls : List Line) (number line : ℕ) : Type 0 where
+  offending : (number ≡ ten + 4) ⊎ (number ≡ ten + 5) → Offending n ls line → LineTold ten n ls number line
+  no-line : number ≢ ten + 4 → number ≢ ten + 5 → line ≡ noLine → LineTold ten n ls number line
+
 -- a line comes after the one before it, if there is one
 abbrev pub follows : Option Line → Line → Bool
 follows none l = true
@@ -93,17 +104,6 @@ orderCheck ten j before l = (follows before l, record { number = ten + 5; line =
 abbrev pub lineChecks : (ten n j : ℕ) (before : Option Line) → List Line → List Check
 lineChecks ten n j before [] = []
 lineChecks ten n j before (l ∷ ls) = fitCheck ten n j l ∷ orderCheck ten j before l ∷ lineChecks ten n (suc j) (some l) ls
-
--- line j of lines among n vertices is the offending one, the first whose check fails: a sheet may have the lines before it, and not those and it
-pub record Offending (n : ℕ) (ls : List Line) (j : ℕ) : Type 0 where
-  pub there : j < length ls
-  pub before : Drawable n (take j ls)
-  pub fails : Drawable n (take (suc j) ls) → ⊥
-
--- what the line beside a number tells where a sheet's lines are checked: the offending one with ten + 4 and ten + 5, none with any other number
-pub data LineTold (ten n : ℕ) (ls : List Line) (number line : ℕ) : Type 0 where
-  offending : (number ≡ ten + 4) ⊎ (number ≡ ten + 5) → Offending n ls line → LineTold ten n ls number line
-  no-line : number ≢ ten + 4 → number ≢ ten + 5 → line ≡ noLine → LineTold ten n ls number line
 
 -- the checks of a sheet: under 3 bytes, counts, length, filling, lines
 abbrev pub sheetChecks : Limits → List ℕ → List Check

@@ -8,7 +8,7 @@ use Rattle.rules.specs.Calls.{figureOf, patchOf}
 use Rattle.sheet.specs.Check.{verdictOf}
 use Rattle.figure.specs.FigureTables.{HoldsFigure}
 use Rattle.sheet.proofs.Verdicts.{passes}
-use Rattle.row_check.proofs.Loaded.{loaded}
+use Rattle.patch.proofs.Held.{loaded-holds}
 use Rattle.row_check.proofs.Before.{figure-passes, both-accepted}
 use borrow.Author.Needs.{needs}
 use Rattle.row_check.proofs.check_rows.Statement.{statement}
@@ -57,13 +57,13 @@ test-rows-requires : tie.Need-test-rows-requires
 test-rows-requires c κs = let k = c .before .before .before .before .before .before .before in
     let z = c .before .before .before .before .before .if1 .left in
     let p = start k .args .patch .now in
-    (accepted k z .0, held k z, (patchOf p, loaded p _ 5_122 (accepted k z .1) (le-refl 5_122) (c .before .before .before .load .ensures), patch-size p ∙ sym (c .before .counts .ensures .0)))
+    (accepted k z .0, held k z, (patchOf p, loaded-holds p (accepted k z .1) _ 5_122 (le-refl 5_122) (c .before .before .before .load .ensures), patch-size p ∙ sym (c .before .counts .ensures .0)))
 
 returns-2 : tie.Need-returns-2
 returns-2 c = let k = c .before .before .before .before .before .before .before .before in
     let z = c .before .before .before .before .before .before .if1 .left in
     let p = start k .args .patch .now in
-    tested (passed k z) refl (c .test-rows .ensures (patchOf p) (loaded p _ 5_122 (accepted k z .1) (le-refl 5_122) (c .before .before .before .before .load .ensures)) (patch-size p ∙ sym (c .before .before .counts .ensures .0)))
+    tested (passed k z) refl (c .test-rows .ensures (patchOf p) (loaded-holds p (accepted k z .1) _ 5_122 (le-refl 5_122) (c .before .before .before .before .load .ensures)) (patch-size p ∙ sym (c .before .before .counts .ensures .0)))
 
 pub check-rows-spec : {M : Type 1} → statement M
 check-rows-spec =
