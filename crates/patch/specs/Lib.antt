@@ -1,4 +1,2 @@
--- What the patch tables hold, and what each pass of loading leaves.
+-- What the patch tables hold, as they are read.
 pub mod Tables
-pub mod Passes
-pub mod Cuts

@@ -17,7 +17,7 @@ use crate::place::ends_of;
 use crate::place::is_place;
 use figure::FigureArrays;
 use figure::check_and_load;
-use patch::load;
+use patch_loader::load;
 use sheet::check::Verdict;
 use sheet::check::check_patch;
 use sheet::check::lineless;

@@ -8,7 +8,7 @@ use Rattle.rules.specs.Calls.{figureOf, patchOf}
 use Rattle.sheet.specs.Check.{verdictOf}
 use Rattle.figure.specs.FigureTables.{HoldsFigure}
 use Rattle.sheet.proofs.Verdicts.{passes}
-use Rattle.patch.proofs.Held.{loaded-holds}
+use Rattle.patch_loader.proofs.Loaded.{loaded-holds}
 use Rattle.row_check.proofs.Before.{figure-passes, both-accepted}
 use borrow.Author.Needs.{needs}
 use Rattle.row_check.proofs.check_rows.Statement.{statement}
