@@ -1,10 +1,10 @@
--- `sheet_trials::draw::below` meets its contract: a remainder is below its divisor. Assumes nothing.
-use Prim.Native.Nat.{_/_}
+-- `below` meets its contract: a remainder is below its divisor. Assumes nothing.
 use native.Mathlib.Nat.{mod-lt}
 use native.Mathlib.Omega.{arith}
+use Prim.Native.Nat.{_/_}
 use borrow.Author.Needs.{needs}
-use Rattle.sheet_trials.proofs.draw.below.Statement.{statement}
-use Rattle.sheet_trials.proofs.draw.below.Tie as tie
+use Rattle.draws.proofs.below.Statement.{statement}
+use Rattle.draws.proofs.below.Tie as tie
 
 rem-result : tie.Need-rem-result
 rem-result c = search needs

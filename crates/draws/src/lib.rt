@@ -1,9 +1,10 @@
-// Numbers that look random, and the lists of a sheet out of them.
-ghost use Prim.Native.Nat.{_+_, _<_, _≤_};
+// Numbers that look random, and the lists of a sheet drawn out of them: for the trials.
+ghost use mathlib.Core.Path.{_≡_};
+ghost use Prim.Native.Nat.{_+_, _*_, _%_, _<_, _≤_};
 ghost use lib.ListN.{length};
 
 // The place in the sequence, and how many numbers were drawn into a list.
-pub(crate) struct Drawn {
+pub struct Drawn {
     pub seed: u32,
     pub count: usize,
 }
@@ -15,19 +16,21 @@ struct Ends {
 }
 
 // The next number of the sequence.
-pub(crate) fn next(seed: u32) -> u32 {
+pub fn next(seed: u32) -> u32
+    ensures { λ r. ⌜ r ≡ (seed * 1_103_515_245 + 12_345) % 2_147_483_648 ⌝ }
+{
     (((seed as u64) * 1103515245 + 12345) % 2147483648) as u32
 }
 
 // A number below `limit` out of the upper bits.
-pub(crate) fn below(seed: u32, limit: u16) -> u16
+pub fn below(seed: u32, limit: u16) -> u16
     requires { ⌜ 0 < limit ⌝ }
     ensures { λ r. ⌜ r < limit ⌝ }
 {
     (seed / 32768 % (limit as u32)) as u16
 }
 
-pub(crate) fn draw_kinds(kinds: &mut [u16], seed: u32) -> u32 {
+fn draw_kinds(kinds: &mut [u16], seed: u32) -> u32 {
     let mut s = seed;
     let mut i = 0;
     while i < kinds.len() {
@@ -63,7 +66,7 @@ fn set_line(lines: &mut [u16], k: usize, sort: u16, e: Ends)
 }
 
 // Lines among n vertices, ascending by jumps below `gap`, as many as there are or as the list holds.
-pub(crate) fn draw_lines(lines: &mut [u16], n: u16, gap: u16, seed: u32) -> Drawn
+fn draw_lines(lines: &mut [u16], n: u16, gap: u16, seed: u32) -> Drawn
     requires { ⌜ 0 < gap ⌝ }
     ensures { λ r. ⌜ r .count ≤ length (now (lines .exit)) ⌝ }
 {
@@ -90,4 +93,13 @@ pub(crate) fn draw_lines(lines: &mut [u16], n: u16, gap: u16, seed: u32) -> Draw
         seed: s,
         count: 3 * k,
     }
+}
+
+// Kinds, and lines among the first n of their vertices by jumps below `gap`; the count is of the lines' numbers.
+pub fn draw_lists(kinds: &mut [u16], lines: &mut [u16], n: u16, gap: u16, seed: u32) -> Drawn
+    requires { ⌜ 0 < gap ⌝ }
+    ensures { λ r. ⌜ r .count ≤ length (now (lines .exit)) ⌝ }
+{
+    let s = draw_kinds(kinds, seed);
+    draw_lines(lines, n, gap, s)
 }

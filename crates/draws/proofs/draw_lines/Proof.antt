@@ -1,16 +1,16 @@
--- `sheet_trials::draw::draw_lines` meets its contract. The invariant: the lines drawn are within the list, which keeps its length. Assumes nothing.
-use Prim.Native.Nat.{_/_, _≤_, _-_}
-use mathlib.Core.Path.{_≡_}
+-- `draw_lines` meets its contract. Assumes nothing.
 use borrow.Author.Needs.{needs}
+use Prim.Native.Nat.{_≤_, _-_, _/_}
+use mathlib.Core.Path.{_≡_}
 use lib.ListN.{length}
-use Rattle.sheet_trials.proofs.draw.draw_lines.Statement.{statement}
-use Rattle.sheet_trials.proofs.draw.draw_lines.Tie as tie
+use Rattle.draws.proofs.draw_lines.Statement.{statement}
+use Rattle.draws.proofs.draw_lines.Tie as tie
 
 abbrev Inv-loop : tie.InvT-loop
-Inv-loop lines₀ n seed s₀ e₀ k₀ lines s e k = (k ≤ length lines₀ / 3) × (length lines ≡ length lines₀)
+Inv-loop lines₀ n gap seed s₀ e₀ k₀ lines s e k = (length lines ≡ length lines₀) × (k ≤ length lines₀ / 3)
 
 abbrev μ-loop : tie.MeasureT-loop
-μ-loop lines₀ n seed s₀ e₀ k₀ lines s e k = length lines₀ - k
+μ-loop lines₀ n gap seed s₀ e₀ k₀ lines s e k = length lines₀ - k
 
 loop-holds : tie.Need-loop-holds Inv-loop μ-loop
 loop-holds c = search needs
@@ -24,8 +24,8 @@ below-requires c κs = search needs
 next-ends-requires : tie.Need-next-ends-requires Inv-loop μ-loop
 next-ends-requires c κs = search needs
 
-mul-t11 : tie.Need-mul-t11 Inv-loop μ-loop
-mul-t11 c = search needs
+mul-t12 : tie.Need-mul-t12 Inv-loop μ-loop
+mul-t12 c = search needs
 
 same-length : tie.Need-same-length Inv-loop μ-loop
 same-length c = search needs
@@ -54,8 +54,8 @@ loop-less c = search needs
 loop-again : tie.Need-loop-again Inv-loop μ-loop
 loop-again c = search needs
 
-mul-t15 : tie.Need-mul-t15 Inv-loop μ-loop
-mul-t15 c = search needs
+mul-t16 : tie.Need-mul-t16 Inv-loop μ-loop
+mul-t16 c = search needs
 
 same-length-2 : tie.Need-same-length-2 Inv-loop μ-loop
 same-length-2 c = search needs
@@ -73,7 +73,7 @@ draw-lines-spec =
     next-requires
     below-requires
     next-ends-requires
-    mul-t11
+    mul-t12
     same-length
     returns
     next-requires-2
@@ -83,6 +83,6 @@ draw-lines-spec =
     add-k
     loop-less
     loop-again
-    mul-t15
+    mul-t16
     same-length-2
     returns-2)

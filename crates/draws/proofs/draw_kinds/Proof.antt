@@ -4,8 +4,8 @@ use Prim.Native.Nat.{_≤_, _-_}
 use mathlib.Core.Path.{_≡_}
 use native.Mathlib.Omega.{arith}
 use lib.ListN.{length, length-set}
-use Rattle.text_trials.proofs.draw.draw_kinds.Statement.{statement}
-use Rattle.text_trials.proofs.draw.draw_kinds.Tie as tie
+use Rattle.draws.proofs.draw_kinds.Statement.{statement}
+use Rattle.draws.proofs.draw_kinds.Tie as tie
 
 abbrev Inv-loop : tie.InvT-loop
 Inv-loop kinds₀ seed s₀ i₀ kinds s i = (length kinds ≡ length kinds₀) × (i ≤ length kinds₀)

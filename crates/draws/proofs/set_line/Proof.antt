@@ -2,8 +2,8 @@
 use native.Mathlib.Omega.{arith}
 use lib.ListN.{length-set}
 use borrow.Author.Needs.{needs}
-use Rattle.text_trials.proofs.draw.set_line.Statement.{statement}
-use Rattle.text_trials.proofs.draw.set_line.Tie as tie
+use Rattle.draws.proofs.set_line.Statement.{statement}
+use Rattle.draws.proofs.set_line.Tie as tie
 
 mul-lines : tie.Need-mul-lines
 mul-lines c = search needs
