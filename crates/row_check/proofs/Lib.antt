@@ -1,10 +1,4 @@
--- The laws, each file after those that it uses.
-pub mod Says
-pub mod Used
-pub mod Ends
-pub mod Places
-pub mod Rows
-pub mod Marks
+-- The laws of the walk, of the checks before it and of what is loaded for it.
 pub mod Walks
 pub mod Before
 pub mod Loaded

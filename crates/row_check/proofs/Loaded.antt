@@ -10,7 +10,7 @@ use Rattle.rules.specs.RowCheck.{rowCount, RowsTested}
 use Rattle.rules.proofs.Accepted.{figure-drawn}
 use Rattle.figure.specs.FigureTables.{HoldsFigure}
 use Rattle.patch.specs.Tables.{Holds}
-use Rattle.row_check.specs.Against.{HoldsEnds, Against}
+use Rattle.row_tests.specs.Against.{HoldsEnds, Against}
 
 module _ (f : List ℕ) (A : Accepted figureLimits f) (n m : ℕ) (kinds near degrees first second : List ℕ) (H : HoldsFigure (figureOf f) n kinds near degrees) (E : HoldsEnds (figureOf f) first second m) where
   -- the arrays and the tables hold the figure and the patch

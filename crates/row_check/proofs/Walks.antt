@@ -9,10 +9,10 @@ use native.Mathlib.Omega.{arith}
 use lib.ListN.{length, length-replicate, replicate}
 use Rattle.rules.specs.Place.{Figure, Patch, Place}
 use Rattle.rules.specs.RowCheck.{rowAt, Good, Repeats, RowsTested, all-good, not-a-place, repeated}
-use Rattle.row_check.specs.Says.{Says}
-use Rattle.row_check.specs.Against.{Against}
-use Rattle.row_check.specs.Marks.{Noted}
-use Rattle.row_check.proofs.Rows.{row-long}
+use Rattle.row_tests.specs.Says.{Says}
+use Rattle.row_tests.specs.Against.{Against}
+use Rattle.row_tests.specs.Marks.{Noted}
+use Rattle.row_tests.proofs.Rows.{row-long}
 
 -- a row below the count lies in the list
 pub row-fits : (n i len : ℕ) → i < len / n → i * n + n ≤ len

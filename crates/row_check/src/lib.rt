@@ -10,21 +10,18 @@ ghost use Rattle.rules.specs.RowCheck.{rowChecks, rowCount, RowsTested, RowsChe
 ghost use Rattle.sheet.specs.Check.{verdictOf};
 ghost use Rattle.figure.specs.FigureTables.{HoldsFigure};
 ghost use Rattle.patch.specs.Tables.{Holds};
-ghost use Rattle.row_check.specs.Against.{Against};
-use crate::equal::repeats;
-use crate::equal::row_of;
-use crate::place::ends_of;
-use crate::place::is_place;
+ghost use Rattle.row_tests.specs.Against.{Against};
 use figure::FigureArrays;
 use figure::check_and_load;
 use patch_loader::load;
+use row_tests::equal::repeats;
+use row_tests::equal::row_of;
+use row_tests::place::ends_of;
+use row_tests::place::is_place;
 use sheet::check::Verdict;
 use sheet::check::check_patch;
 use sheet::check::lineless;
 use sheet::fields::counts;
-
-mod equal;
-mod place;
 
 // What comes back: the number, the line that it is about, and the first bad row counted from 0, which is 0 in every other answer.
 pub struct Checked {

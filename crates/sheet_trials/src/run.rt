@@ -6,11 +6,11 @@ use crate::digest::mix;
 use crate::digest::mix_bytes;
 use crate::digest::mix_words;
 use crate::digest::note;
-use crate::draw::Counted;
-use crate::draw::below;
 use crate::draw::draw_bytes;
-use crate::draw::draw_lists;
-use crate::draw::next;
+use draws::Drawn;
+use draws::below;
+use draws::draw_lists;
+use draws::next;
 use sheet::check::check_figure;
 use sheet::check::check_patch;
 use sheet_reader::read;
@@ -205,12 +205,12 @@ fn made(kinds: &[u16], k: usize, lines: &[u16], l: usize, bytes: &mut [u8]) -> u
 }
 
 // A drawn sheet, and its count of bytes.
-fn drawn(seed: u32, bytes: &mut [u8]) -> Counted {
+fn drawn(seed: u32, bytes: &mut [u8]) -> Drawn {
     let mut kinds = [0u16; 20];
     let mut lines = [0u16; 120];
     let n = 1 + below(seed, 20);
-    let c = draw_lists(&mut kinds, &mut lines, n, next(seed));
-    Counted {
+    let c = draw_lists(&mut kinds, &mut lines, n, 3, next(seed));
+    Drawn {
         seed: c.seed,
         count: made(&kinds, n as usize, &lines, c.count, bytes),
     }
@@ -285,7 +285,7 @@ pub(crate) fn one_written(seed: u32, log: &mut [u64]) -> u32 {
     let mut kinds = [0u16; 20];
     let mut lines = [0u16; 120];
     let n = below(seed, 21);
-    let c = draw_lists(&mut kinds, &mut lines, n, next(seed));
+    let c = draw_lists(&mut kinds, &mut lines, n, 3, next(seed));
     let t = next(c.seed);
     let v = next(next(t));
     change_both(&mut kinds, &mut lines, t);
@@ -298,7 +298,7 @@ pub(crate) fn one_written(seed: u32, log: &mut [u64]) -> u32 {
 fn longest(seed: u32, bytes: &mut [u8]) -> u16 {
     let mut kinds = [0u16; 512];
     let mut lines = [0u16; 6144];
-    draw_lists(&mut kinds, &mut lines, 512, seed);
+    draw_lists(&mut kinds, &mut lines, 512, 3, seed);
     let w = write(&kinds, &lines, bytes);
     w.number
 }

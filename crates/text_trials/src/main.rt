@@ -1,12 +1,11 @@
 // Random sheets into text and back, and damaged texts. It prints the seed, how many sheets and texts came back the same, how many damaged texts were refused, and a digest of all texts and refusals.
 // What it must print is worked out by tools/text_trials.py, from docs/TEXT.md and not from this code.
-mod draw;
 mod trial;
 
-use crate::draw::below;
-use crate::draw::next;
 use crate::trial::Tally;
 use crate::trial::trial;
+use draws::below;
+use draws::next;
 
 // Small sheets of every density, one in eight of any size.
 fn one(tally: Tally, i: u32) -> Tally {

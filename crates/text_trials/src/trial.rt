@@ -1,12 +1,11 @@
 // One trial: a drawn sheet into text and back, and the text damaged.
 ghost use Prim.Native.Nat.{_<_};
 ghost use Rattle.io.specs.Counts.{Counts};
-use crate::draw::Drawn;
-use crate::draw::below;
-use crate::draw::draw_kinds;
-use crate::draw::draw_lines;
-use crate::draw::next;
 use check::same;
+use draws::Drawn;
+use draws::below;
+use draws::draw_lists;
+use draws::next;
 use listing::text_of;
 use sheet_writer::write;
 use std::num::wrapping_add_u32;
@@ -64,8 +63,7 @@ fn draw_sheet(seed: u32, n: u16, gap: u16, sheet: &mut [u8]) -> Drawn
 {
     let mut kinds = [0u16; 512];
     let mut lines = [0u16; 6144];
-    let s = draw_kinds(&mut kinds, seed);
-    let drawn = draw_lines(&mut lines, n, gap, s);
+    let drawn = draw_lists(&mut kinds, &mut lines, n, gap, seed);
     Drawn {
         seed: drawn.seed,
         count: write_first(&kinds, n as usize, &lines, drawn.count, sheet),

@@ -7,11 +7,11 @@ use borrow.Author.Tests.{not-true, not-false}
 use Rattle.rules.specs.Place.{Figure, Patch, Place}
 use Rattle.rules.specs.RowCheck.{Good, rowAt}
 use Rattle.row_check.proofs.Walks.{row-fits, none-noted, row-says, row-against, good-none, good-more, stops-at-place, stops-at-repeat, walks-through}
-use Rattle.row_check.proofs.Says.{says-yes, says-no}
-use Rattle.row_check.specs.Says.{Says}
+use Rattle.row_tests.proofs.Says.{says-yes, says-no}
+use Rattle.row_tests.specs.Says.{Says}
 use borrow.Author.Needs.{needs}
-use Rattle.row_check.specs.Against.{Against}
-use Rattle.row_check.specs.Marks.{Noted}
+use Rattle.row_tests.specs.Against.{Against}
+use Rattle.row_tests.specs.Marks.{Noted}
 use Rattle.row_check.proofs.walk.Statement.{statement}
 use Rattle.row_check.proofs.walk.Tie as tie
 

@@ -1,0 +1,51 @@
+-- `set_line` is safe: three stores, each within the list. Assumes nothing.
+use native.Mathlib.Omega.{arith}
+use lib.ListN.{length-set}
+use borrow.Author.Needs.{needs}
+use Rattle.draws.proofs.set_line.Statement.{statement}
+use Rattle.draws.proofs.set_line.Tie as tie
+
+mul-lines : tie.Need-mul-lines
+mul-lines c = search needs
+
+slice-write-lines : tie.Need-slice-write-lines
+slice-write-lines c = search needs
+
+add-lines : tie.Need-add-lines
+add-lines c = search needs
+
+mul-lines-2 : tie.Need-mul-lines-2
+mul-lines-2 c = search needs
+
+slice-write-lines-2 : tie.Need-slice-write-lines-2
+slice-write-lines-2 c = simp length-set (omega arith)
+
+add-lines-2 : tie.Need-add-lines-2
+add-lines-2 c = search needs
+
+mul-lines-3 : tie.Need-mul-lines-3
+mul-lines-3 c = search needs
+
+slice-write-lines-3 : tie.Need-slice-write-lines-3
+slice-write-lines-3 c = search needs
+
+same-length : tie.Need-same-length
+same-length c = search needs
+
+returns : tie.Need-returns
+returns c = search needs
+
+pub set-line-spec : {M : Type 1} → statement M
+set-line-spec =
+    tie.close
+    (tie.spec
+    mul-lines
+    slice-write-lines
+    add-lines
+    mul-lines-2
+    slice-write-lines-2
+    add-lines-2
+    mul-lines-3
+    slice-write-lines-3
+    same-length
+    returns)

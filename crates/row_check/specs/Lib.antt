@@ -1,4 +1,0 @@
--- What the contracts of the row check cite.
-pub mod Says
-pub mod Against
-pub mod Marks
