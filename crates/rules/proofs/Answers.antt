@@ -2,7 +2,7 @@
 use Prim.Native.Nat.{ℕ, _≤_}
 use mathlib.Core.Path.{_≡_, refl, ap, sym, _∙_}
 use mathlib.Core.Logic.{_≢_, _↔_}
-use mathlib.Core.List.{List, [], _∷_, _++_, map, List·Memᴰ, List·Memᴰ·not-nil, Memᴰ·append-left}
+use mathlib.Core.List.{List, [], _∷_, _++_, map, List·Memᴰ, Memᴰ·append-left}
 use mathlib.Core.Bool.{true}
 use mathlib.Core.Option.{some, none}
 use native.Mathlib.Nat.{le-trans}
@@ -14,7 +14,7 @@ use Rattle.rules.specs.Candidates.{orderOf, setsOf}
 use Rattle.rules.specs.Tries.{Try, planOf, triesOf}
 use Rattle.rules.specs.Partials.{partials, partialsOf}
 use Rattle.rules.specs.Answer.{rowsOf, cut, Cut, answer, allRows}
-use Rattle.laws.proofs.Lists.{no-member, ordered-one, begun-ordered, weaken-ordered}
+use Rattle.laws.proofs.Lists.{ordered-one, begun-ordered, weaken-ordered}
 use Rattle.rules.proofs.Order.{lesser-apart, lesser-both}
 use Rattle.rules.proofs.Cut.{cut-is, begins, begins-all, whole-iff, whole-stays, allowance-enough}
 use Rattle.rules.proofs.Search.{row-place, place-row, rows-ascend, tries-partials}
@@ -79,10 +79,6 @@ module _ (F : Figure) (P : Patch) (C : Checked F) (room allow : ℕ) where
   -- where the number is 0, the rows are the places
   pub complete : answer F P room allow .number ≡ 0 → (row : List ℕ) → List·Memᴰ row (answer F P room allow .rows) ↔ Place F P row
   complete e row = (sound row, λ p. rw (true-reason F P room allow .whole e .0) (place-row F P C row p))
-
-  -- and there is no row exactly where there is no place
-  pub complete-none : answer F P room allow .number ≡ 0 → (answer F P room allow .rows ≡ []) ↔ ((row : List ℕ) → Place F P row → ⊥)
-  complete-none e = (λ n row p. List·Memᴰ·not-nil (rw n at (complete e row .1 p)), λ f. no-member _ (λ row m. f row (sound row m)))
 
   -- no more tries are spent than there are partial placements
   pub bounded : answer F P room allow .tries ≤ partials F P

@@ -15,10 +15,6 @@ use Rattle.sheet_writer.specs.Pen.{Penned, Added}
 use Rattle.sheet.proofs.Words.{word-split}
 use Rattle.sheet_reader.proofs.Stores.{number-put}
 
--- what a pen holds is below the power of its count
-pub penned-low : {old bs : List ℕ} {pen : Pen} {bytes : List ℕ} → Penned old bs pen bytes → pen .held < 2 ^ pen .count
-penned-low {old} {bs} {pen} P = rw (P .held) (word-lt (λ j. getD bs j 0) (P .two) (8 * pen .at) (pen .count))
-
 -- a byte goes out
 module _ (pen : Pen) (bytes : List ℕ) (rest : ℕ) (e : pen .count ≡ rest + 8) (h : pen .at < length bytes) where
   abbrev after : Pen
