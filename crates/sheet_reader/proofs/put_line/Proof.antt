@@ -1,4 +1,4 @@
--- `sheet::reader::put_line` meets its contract: three stores, each within the list. Assumes nothing.
+-- `put_line` meets its contract: three stores, each within the list. Assumes nothing.
 use native.Mathlib.Omega.{arith}
 use borrow.Author.Needs.{needs}
 use lib.ListN.{length-set}

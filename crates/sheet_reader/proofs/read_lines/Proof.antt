@@ -1,4 +1,4 @@
--- `sheet::reader::read_lines` meets its contract. The invariant: the first j lines are written, three numbers each, and the rest is as it was. Assumes nothing.
+-- `read_lines` meets its contract. The invariant: the first j lines are written, three numbers each, and the rest is as it was. Assumes nothing.
 use Prim.Native.Nat.{ℕ, _≤_, _-_, _+_, _*_}
 use mathlib.Core.List.{map, _++_}
 use mathlib.Core.Path.{_≡_, refl, _∙_, ap}

@@ -1,4 +1,4 @@
--- `sheet::writer::check_line_list` meets its contract. The invariant: the verdict on all the lines is that on the lines from the j-th on, after the line before. Assumes nothing.
+-- `check_line_list` meets its contract. The invariant: the verdict on all the lines is that on the lines from the j-th on, after the line before. Assumes nothing.
 use Prim.Native.Nat.{_≤_, _-_, _/_}
 use mathlib.Core.Option.{some, none}
 use mathlib.Core.List.{map}

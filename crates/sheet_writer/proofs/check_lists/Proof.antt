@@ -1,4 +1,4 @@
--- `sheet::writer::check_lists` meets its contract: the first test to fail gives the number. Assumes nothing.
+-- `check_lists` meets its contract: the first test to fail gives the number. Assumes nothing.
 use mathlib.Core.Path.{sym, _∙_}
 use native.Mathlib.Omega.{arith}
 use borrow.Author.Tests.{not-true, not-false}

@@ -1,4 +1,4 @@
--- `sheet::writer::kinds_fit` meets its contract. The invariant: the test of all kinds is that of the kinds from the i-th on. Assumes nothing.
+-- `kinds_fit` meets its contract. The invariant: the test of all kinds is that of the kinds from the i-th on. Assumes nothing.
 use Prim.Native.Nat.{_≤_, _-_}
 use mathlib.Core.Path.{_≡_, refl, sym, _∙_}
 use native.Mathlib.Omega.{arith}

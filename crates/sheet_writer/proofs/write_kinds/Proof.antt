@@ -1,4 +1,4 @@
--- `sheet::writer::write_kinds` meets its contract. The invariant: the bits of the first i kinds were put down. Assumes nothing.
+-- `write_kinds` meets its contract. The invariant: the bits of the first i kinds were put down. Assumes nothing.
 use Prim.Native.Nat.{_≤_, _<_, _-_}
 use mathlib.Core.Path.{_≡_}
 use native.Mathlib.Omega.{arith}

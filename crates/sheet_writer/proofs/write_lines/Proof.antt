@@ -1,4 +1,4 @@
--- `sheet::writer::write_lines` meets its contract. The invariant: the bits of the first j lines were put down. Assumes nothing.
+-- `write_lines` meets its contract. The invariant: the bits of the first j lines were put down. Assumes nothing.
 use Prim.Native.Nat.{_≤_, _<_, _-_, _/_}
 use mathlib.Core.List.{map}
 use mathlib.Core.Path.{_≡_, refl, sym}

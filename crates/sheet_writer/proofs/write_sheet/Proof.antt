@@ -1,4 +1,4 @@
--- `sheet::writer::write_sheet` meets its contract: each part has room after the parts before it, and the filled bytes are those of the layout. Assumes nothing.
+-- `write_sheet` meets its contract: each part has room after the parts before it, and the filled bytes are those of the layout. Assumes nothing.
 use Prim.Native.Nat.{_*_, _-_, _/_, _%_}
 use native.Mathlib.Omega.{arith}
 use borrow.Author.Needs.{needs}
