@@ -1,4 +1,6 @@
 // Runs the benches c to k of document 01 on dirty memory and a dirty list; j and k are not proved as theorems. `stdout` is written from the document by hand.
+#![tactic(auto)]
+
 ghost use Rattle.std.specs.Prelude.{◌≤◌};
 
 use libc::STDOUT_FILENO;

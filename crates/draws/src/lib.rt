@@ -1,15 +1,17 @@
 // Numbers that look random, and the lists of a sheet drawn out of them: for the trials.
+#![tactic(auto)]
+
 ghost use Rattle.std.specs.Prelude.{◌≡◌, ◌+◌, ◌*◌, ◌%◌, ◌<◌, ◌≤◌, length};
 
 // The place in the sequence, and how many numbers were drawn into a list.
-#[derive(Drop)]
+#[derive(Clone, Copy)]
 pub struct Drawn {
     pub seed: u32,
     pub count: usize,
 }
 
 // Two ends of a line.
-#[derive(Drop)]
+#[derive(Clone, Copy)]
 struct Ends {
     first: u16,
     second: u16,

@@ -1,5 +1,7 @@
 // The library's calls for C and for Rust, under their plain names. Each is the proved function of
 // the crate below it, with its answer laid out as in C.
+#![tactic(auto)]
+
 ghost use Rattle.std.specs.Prelude.{◌≡◌};
 ghost use Rattle.rules.specs.Calls.{search, reader, writer};
 ghost use Rattle.rules.specs.RowCheck.{RowsChecked};
@@ -12,7 +14,7 @@ use sheet_writer::write;
 
 // What the search returns: its number, the line that the number is about or 65,535, the rows written and the tries spent.
 #[repr(C)]
-#[derive(Drop)]
+#[derive(Clone, Copy)]
 pub struct Found {
     pub number: u16,
     pub line: u16,
@@ -22,7 +24,7 @@ pub struct Found {
 
 // What the reader returns: its number, the line, and the counts n and m.
 #[repr(C)]
-#[derive(Drop)]
+#[derive(Clone, Copy)]
 pub struct Read {
     pub number: u16,
     pub line: u16,
@@ -32,7 +34,7 @@ pub struct Read {
 
 // What the writer returns: its number, the line, and the count of bytes.
 #[repr(C)]
-#[derive(Drop)]
+#[derive(Clone, Copy)]
 pub struct Written {
     pub number: u16,
     pub line: u16,
@@ -41,7 +43,7 @@ pub struct Written {
 
 // What the check of rows returns: its number, the line, and the first bad row or 0.
 #[repr(C)]
-#[derive(Drop)]
+#[derive(Clone, Copy)]
 pub struct Checked {
     pub number: u16,
     pub line: u16,

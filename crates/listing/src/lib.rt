@@ -1,4 +1,6 @@
 // The text form of a sheet (docs/TEXT.md), written: the two lists that the proved reader gives, into lent bytes, one item a line.
+#![tactic(auto)]
+
 ghost use Rattle.std.specs.Prelude.{◌≤◌, length, ◌≡◌};
 ghost use Rattle.rules.specs.Checks.{patch_limits, sheet_verdict};
 ghost use Rattle.io.specs.Counts.{IsPrefixLen};
@@ -6,7 +8,7 @@ ghost use Rattle.io.specs.Counts.{IsPrefixLen};
 use sheet_reader::read;
 
 // 0 and the text's bytes, or the reader's number and the line of the sheet that it is about.
-#[derive(Drop)]
+#[derive(Clone, Copy)]
 pub struct SheetText {
     pub number: u16,
     pub line: u16,

@@ -1,5 +1,7 @@
 // Compares `find` with a matcher by the definition of a place over random graphs, whole calls and calls under small limits, on dirty memory and a dirty list, and prints how many cases agree.
 // What it must print is worked out by tools/random_graphs.py, from document 01 and not from this code.
+#![tactic(auto)]
+
 mod draw;
 
 ghost use Rattle.std.specs.Prelude.{◌<◌, ◌≤◌};
@@ -12,7 +14,7 @@ use std::num::wrapping_add_u64;
 use trials::{Limits, Ran, end_of, run_lists};
 
 // What one case came to: 1 where all agreed, the places and tries of its whole call, and under which sums its two calls count (11: none).
-#[derive(Drop)]
+#[derive(Clone, Copy)]
 struct Case {
     agreed: u64,
     places: u64,
@@ -22,7 +24,7 @@ struct Case {
 }
 
 // The room and the allowance of a call under limits: one of the two small, both, or both just enough.
-#[derive(Drop)]
+#[derive(Clone, Copy)]
 struct Small {
     room: usize,
     allowance: u32,

@@ -1,4 +1,6 @@
 // A refusal in words, on standard error: the number, what it means, and the line that it is about, of a text counted from 1, of a sheet from 0. Numbers from 71 on are of the text alone (docs/TEXT.md), the others document 01's.
+#![tactic(auto)]
+
 ghost use Rattle.std.specs.Prelude.{◌≡◌};
 
 use libc::STDERR_FILENO;

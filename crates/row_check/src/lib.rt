@@ -1,4 +1,6 @@
 // The check of a list of rows, whoever made it: accepted exactly if every row is a place and no two rows are equal.
+#![tactic(auto)]
+
 ghost use Rattle.std.specs.Prelude.{◌≡◌, List, ℕ, ◌/◌, ◌<◌, length};
 ghost use Rattle.rules.specs.Checks.{Accepted, figure_limits, verdict};
 ghost use Rattle.rules.specs.Place.{Figure, Patch};
@@ -17,7 +19,7 @@ use sheet::check::{Verdict, check_patch, lineless};
 use sheet::fields::counts;
 
 // What comes back: the number, the line that it is about, and the first bad row counted from 0, which is 0 in every other answer.
-#[derive(Drop)]
+#[derive(Clone, Copy)]
 pub struct Checked {
     pub number: u16,
     pub line: u16,
@@ -25,7 +27,7 @@ pub struct Checked {
 }
 
 // What the test of the rows answers: 0, or 43 or 44 with the first bad row.
-#[derive(Drop)]
+#[derive(Clone, Copy)]
 struct Tested {
     number: u16,
     row: usize,

@@ -1,6 +1,6 @@
 -- The tries of a search are no more than the partial placements, which are counted with no word of the search.
 use Prim.Native.Nat.{ℕ, zero, suc, ◌+◌, ◌≤◌, ◌<◌}
-use mathlib.Core.Path.{◌≡◌, refl}
+use mathlib.Core.Path.{◌≡◌, refl, subst, sym}
 use mathlib.Core.Logic.{⊎_elim}
 use mathlib.Core.List.{List, [], ◌∷◌, ◌++◌, Memᴰ}
 use mathlib.Core.Option.{Option}
@@ -76,7 +76,9 @@ module _ (S : Plan) (L : Lawful S) (A : Faithful S) where
         let rest : List ℕ = drop (suc (length M)) o in
         let most : ℕ → ℕ = λ v. layer S.figure S.patch S.sets [] ((u, v) ∷ M) + layers S.figure S.patch S.sets rest ((u, v) ∷ M) k in
         let bound : total (λ v. length (try_of S k M v).tries) (takeable S M u) ≤ total most (takeable S M u) = total_le _ most (takeable S M u) (λ v t. rw (try_partial g lt t) (try_cases (λ l. length l.tries ≤ 1 + layers S.figure S.patch S.sets rest ((u, v) ∷ M) k) S k M v (λ w e. omega arith) (λ e. level_layers k (more g lt t e) (omega arith)))) in
-        rw (drop-cons o (length M) 0 (rw whole lt), ← next-is M) (omega (arith, siblings_total (level_steps S k M), bound, takeable_total u M most, layers_first S.figure S.patch S.sets u rest M k))
+        let e : drop (length M) o ≡ u ∷ rest = rw (drop-cons o (length M) 0 (rw whole lt), ← next-is M) refl in
+        let within : length (opening (suc k) ++ (level S (suc k) M).tries) ≤ 1 + layers S.figure S.patch S.sets (u ∷ rest) M (suc k) = omega (arith, siblings_total (level_steps S k M), bound, takeable_total u M most, layers_first S.figure S.patch S.sets u rest M k) in
+        subst (λ d. length (opening (suc k) ++ (level S (suc k) M).tries) ≤ 1 + layers S.figure S.patch S.sets d M (suc k)) (sym e) within
 
     -- a search from the start, of a figure that is not empty
     pub level_partials : 0 < S.figure.graph.size → length (level S S.figure.graph.size []).tries ≤ length (partials_up_to S.figure S.patch S.sets o S.figure.graph.size)

@@ -50,7 +50,7 @@ unfolding verdict
 fail_out [] k h e = absurd (omega arith)
 fail_out (c ∷ cs) k h e = elim (split c.0) [ inl t ↦ passes t (fail_out cs k h (rw t at e)) | inr t ↦ fails t (rw t at e) ]
 
-fail_in : {cs : List Check} (k : ℕ) → FirstToFail k cs → (verdict cs).number ≡ k
+fail_in : (k : ℕ) {cs : List Check} → FirstToFail k cs → (verdict cs).number ≡ k
 unfolding verdict
 fail_in k (fails t e) = rw t e
 fail_in k (passes t f) = rw t (fail_in k f)

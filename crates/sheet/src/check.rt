@@ -9,7 +9,7 @@ ghost use Rattle.sheet.specs.Check.{limits_of, verdict_of, head_checks, line_num
 use crate::fields::{SheetLine, bit_length, counts, field, line_at};
 
 // The most vertices and lines that a sheet may have, and the ten that its checks are numbered from.
-#[derive(Drop)]
+#[derive(Clone, Copy)]
 pub(crate) struct SheetLimits {
     pub vertices: u16,
     pub lines: u16,
@@ -17,7 +17,7 @@ pub(crate) struct SheetLimits {
 }
 
 // What a check answers: 0, or the number of the first check to fail; and the line that it is about, counted from 0.
-#[derive(Drop)]
+#[derive(Clone, Copy)]
 pub struct Verdict {
     pub number: u16,
     pub line: u16,

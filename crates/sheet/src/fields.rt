@@ -45,7 +45,7 @@ pub fn field(bytes: &[u8], at: usize, width: usize) -> u32
 }
 
 // A line of a sheet: its type (a word that the language keeps for itself) and its two ends.
-#[derive(Drop)]
+#[derive(Clone, Copy)]
 pub struct SheetLine {
     pub sort: u16,
     pub first: u16,
@@ -53,7 +53,7 @@ pub struct SheetLine {
 }
 
 // The counts n and m of a sheet.
-#[derive(Drop)]
+#[derive(Clone, Copy)]
 pub struct SheetCounts {
     pub vertices: u16,
     pub lines: u16,

@@ -1,4 +1,6 @@
 // The reader: what a patch sheet holds, into two lent lists.
+#![tactic(auto)]
+
 ghost use Rattle.std.specs.Prelude.{◌≡◌, ◌+◌, ◌*◌, ◌≤◌, ◌<◌, length, set};
 ghost use Rattle.rules.specs.Sheet.{kinds_held, lines_held};
 ghost use Rattle.rules.specs.Calls.{over, triples, reader};
@@ -8,7 +10,7 @@ use sheet::check::{Verdict, check_patch, lineless};
 use sheet::fields::{SheetLine, counts, kind_at, line_at};
 
 // What the reader returns: its number, the line that the number is about, and the counts n and m.
-#[derive(Drop)]
+#[derive(Clone, Copy)]
 pub struct ReadAnswer {
     pub number: u16,
     pub line: u16,

@@ -1,4 +1,6 @@
 // A sheet on standard input, its text on standard output; or one message on standard error and no output.
+#![tactic(auto)]
+
 use libc::{STDIN_FILENO, STDOUT_FILENO};
 use listing::text_of;
 use refusal::say_of_sheet;

@@ -1,5 +1,7 @@
 // Runs the checks, the reader and the writer over sheets good and damaged, and prints of each part a digest of all that came back and how often each number did.
 // What it must print is worked out by tools/sheet_trials.py, from document 01 and not from this code.
+#![tactic(auto)]
+
 mod digest;
 mod draw;
 mod run;

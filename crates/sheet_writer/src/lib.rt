@@ -1,4 +1,6 @@
 // The writer: the sheet that two lists say, into lent bytes.
+#![tactic(auto)]
+
 ghost use Rattle.std.specs.Prelude.{◌≡◌, ◌+◌, ◌*◌, ◌/◌, ◌≤◌, ◌<◌, ◌^◌, leb, length};
 ghost use Rattle.std.proofs.Math.Option.{none};
 ghost use Rattle.laws.specs.Lists.{all};
@@ -18,7 +20,7 @@ use sheet::check::{Verdict, line_number, lineless, no_line};
 use sheet::fields::{SheetLine, bit_length};
 
 // What the writer returns: its number, the line that the number is about, and the count of bytes.
-#[derive(Drop)]
+#[derive(Clone, Copy)]
 pub struct WriteAnswer {
     pub number: u16,
     pub line: u16,

@@ -4,7 +4,7 @@ ghost use Rattle.rules.specs.Sheet.{bits};
 ghost use Rattle.sheet_writer.specs.Pen.{Able, Added};
 
 // The next byte, the bits that wait for it, and their number.
-#[derive(Drop)]
+#[derive(Clone, Copy)]
 pub(crate) struct Pen {
     pub at: usize,
     pub held: u32,

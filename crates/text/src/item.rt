@@ -2,7 +2,7 @@
 use crate::token::{Token, ends, is, number, word};
 
 // A vertex with its number and kind; a line with its type and ends; an empty line or a comment; a number of docs/TEXT.md for what is wrong.
-#[derive(Drop)]
+#[derive(Clone, Copy)]
 pub(crate) enum Item {
     Vertex(u16, u16),
     Line(u16, u16, u16),

@@ -1,4 +1,6 @@
 // The text form of a sheet (docs/TEXT.md), read: text into the two lists that the proved writer takes, and the line of the text that a refusal is about.
+#![tactic(auto)]
+
 mod item;
 pub mod lists;
 pub mod sheet_of;

@@ -4,7 +4,7 @@ ghost use Rattle.std.specs.Prelude.{◌+◌, ◌≤◌, ◌<◌, length};
 use crate::item::{Item, item_at};
 
 // 0, or the number of what is wrong and the line of the text that it is about, from 1; the kinds listed, and the numbers listed of lines, three a line.
-#[derive(Drop)]
+#[derive(Clone, Copy)]
 pub struct Parsed {
     pub number: u16,
     pub line: usize,

@@ -8,7 +8,7 @@ use crate::lists::lists;
 use sheet_writer::{WriteAnswer, write};
 
 // 0 and the sheet's bytes, or a number and the line of the text.
-#[derive(Drop)]
+#[derive(Clone, Copy)]
 pub struct TextSheet {
     pub number: u16,
     pub line: usize,

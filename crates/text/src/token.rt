@@ -2,7 +2,7 @@
 ghost use Rattle.std.specs.Prelude.{◌<◌, ◌^◌};
 
 // What was read, as a number, and the place after it.
-#[derive(Drop)]
+#[derive(Clone, Copy)]
 pub(crate) struct Token {
     pub value: u64,
     pub next: usize,

@@ -1,4 +1,6 @@
 // Text on standard input, its sheet's bytes on standard output; or one message on standard error and no output.
+#![tactic(auto)]
+
 use libc::{STDIN_FILENO, STDOUT_FILENO};
 use refusal::say_line;
 use text::sheet_of::sheet_of;

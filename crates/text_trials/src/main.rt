@@ -1,5 +1,7 @@
 // Random sheets into text and back, and damaged texts. It prints the seed, how many sheets and texts came back the same, how many damaged texts were refused, and a digest of all texts and refusals.
 // What it must print is worked out by tools/text_trials.py, from docs/TEXT.md and not from this code.
+#![tactic(auto)]
+
 mod trial;
 
 use crate::trial::{Tally, trial};

@@ -10,7 +10,7 @@ use std::num::wrapping_add_u32;
 use text::sheet_of::sheet_of;
 
 // The place in the sequence; how many sheets came back the same, and their texts; a digest of every text, and of what came of every damaged one; how many of those were refused.
-#[derive(Drop)]
+#[derive(Clone, Copy)]
 pub(crate) struct Tally {
     pub seed: u32,
     pub sheets: u32,

@@ -1,11 +1,13 @@
 // What the programs that run `find` share: a call on dirty memory and a dirty list, from bytes or from lists that are packed first, and whether what was to stay stayed. Proved safe; what `find` and `write` promise is theirs to say.
+#![tactic(auto)]
+
 ghost use Rattle.std.specs.Prelude.{◌≤◌};
 
 use find::{Found, find};
 use sheet_writer::write;
 
 // How many numbers of working memory and of the list are lent, and the allowance.
-#[derive(Drop)]
+#[derive(Clone, Copy)]
 pub struct Limits {
     pub memory: usize,
     pub list: usize,
