@@ -1,0 +1,5 @@
+use Rattle.sheet.proofs.Words.{line_whole}
+use Rattle.sheet.proofs.fields.line_at.Goals as goal
+
+pub returns : goal.returns
+returns c = line_whole c.args.bytes.now c.args.at c.field-whole.result c.field-whole.ensures
