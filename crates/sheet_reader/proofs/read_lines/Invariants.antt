@@ -1,0 +1,14 @@
+use Prim.Native.Nat.{◌≤◌, ◌-◌, ◌+◌, ◌*◌}
+use mathlib.Core.List.{map, ◌++◌}
+use mathlib.Core.Path.{◌≡◌}
+use lib.ListN.{length, drop}
+use Rattle.laws.specs.Lists.{upto}
+use Rattle.rules.specs.Calls.{triples}
+use Rattle.rules.specs.Sheet.{line_at}
+use Rattle.sheet_reader.proofs.read_lines.Given as goal
+
+abbrev pub invariant-loop-j : goal.invariant-loop-j
+invariant-loop-j l = (l.j ≤ l.m) × (length l.lines ≡ length l.initial.lines) × (l.lines ≡ triples (map (λ k. line_at l.sheet (22 + 6 * l.n + 20 * k)) (upto l.j 0)) ++ drop (3 * l.j) l.initial.lines)
+
+abbrev pub decreases-loop-j : goal.decreases-loop-j
+decreases-loop-j l = l.m - l.j
