@@ -1,0 +1,10 @@
+use mathlib.Core.Path.{◌≡◌}
+use Prim.Native.Nat.{ℕ, ◌≤◌, ◌<◌, ◌-◌}
+use Rattle.rules.specs.RowCheck.{row_at}
+use Rattle.row_tests.proofs.equal.stands_before.Given as goal
+
+abbrev pub invariant-loop-j : goal.invariant-loop-j
+invariant-loop-j l = (l.j ≤ l.i) × ((k : ℕ) → k < l.j → row_at l.n l.rows k ≡ row_at l.n l.rows l.i → ⊥)
+
+abbrev pub decreases-loop-j : goal.decreases-loop-j
+decreases-loop-j l = l.i - l.j

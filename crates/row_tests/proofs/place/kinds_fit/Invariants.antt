@@ -1,0 +1,12 @@
+use mathlib.Core.Path.{◌≡◌}
+use Prim.Native.Nat.{ℕ, ◌≤◌, ◌<◌, ◌-◌}
+use lib.ListN.{length, get_or}
+use Rattle.rules.specs.Place.{entry}
+use Rattle.patch.specs.Tables.{kind_at}
+use Rattle.row_tests.proofs.place.kinds_fit.Given as goal
+
+abbrev pub invariant-loop-u : goal.invariant-loop-u
+invariant-loop-u l = (l.u ≤ length l.row) × ((k : ℕ) → k < l.u → (entry l.row k < l.size) × (kind_at l.tables (entry l.row k) ≡ get_or l.kinds k 0))
+
+abbrev pub decreases-loop-u : goal.decreases-loop-u
+decreases-loop-u l = length l.row - l.u
