@@ -1,16 +1,13 @@
 -- The bits of kinds and lines, one more at a time, and a list of (type, first, second) line by line.
-use Prim.Native.Nat.{ℕ, zero, suc, ◌+◌, ◌*◌, ◌/◌, ◌%◌, ◌^◌, ◌≤◌, ◌<◌}
+use Prim.Native.Nat.{ℕ, zero, suc, ◌+◌, ◌*◌, ◌/◌, ◌%◌, ◌^◌, ◌<◌}
 use mathlib.Core.Path.{◌≡◌, refl, ap, ap₂, sym, ◌∙◌}
 use mathlib.Core.List.{List, [], ◌∷◌, ◌++◌, map, append_assoc, append-nil, Memᴰ}
 use native.Mathlib.Numerals.{add-one}
 use native.Mathlib.Omega.{arith}
-use mathlib.Core.Bool.{false}
-use borrow.Author.Tests.{le-leb, lt-leb}
-use lib.Dec.{leb}
-use lib.ListN.{length, get_or, take, drop}
-use lib.Seq.{take-suc, drop-cons}
+use lib.ListN.{length, get_or, take}
+use lib.Seq.{take-suc}
 use lib.Pow.{shr-shr, high}
-use Rattle.laws.specs.Lists.{all, upto}
+use Rattle.laws.specs.Lists.{upto}
 use Rattle.laws.proofs.Lists.{length_map_upto, get_d_in, get_d_first, map_next}
 use Rattle.rules.specs.Sheet.{Line, bits, kind_bits, line_bits}
 use Rattle.rules.specs.Calls.{lines_of}
@@ -77,14 +74,6 @@ lines_by (t ∷ (a ∷ (b ∷ r))) =
 
     next : (j : ℕ) → line_in (t ∷ a ∷ b ∷ r) (suc j) ≡ line_in r j
     next j i = record { type = at (3 * j) (3 * suc j) (omega arith) i; first = at (3 * j + 1) (3 * suc j + 1) (omega arith) i; second = at (3 * j + 2) (3 * suc j + 2) (omega arith) i }
-
--- kinds from the i-th on, one after the other
-module _ (ks : List ℕ) (i : ℕ) (h : i < length ks) where
-  pub kind_unfit : 63 < get_or ks i 0 → all (λ k. leb k 63) (drop i ks) ≡ false
-  kind_unfit k = rw (drop-cons ks i 0 h, lt-leb (get_or ks i 0) 63 k)
-
-  pub kind_fits_lem : get_or ks i 0 ≤ 63 → all (λ k. leb k 63) (drop i ks) ≡ all (λ k. leb k 63) (drop (i + 1) ks)
-  kind_fits_lem k = rw (drop-cons ks i 0 h, le-leb (get_or ks i 0) 63 k, add-one)
 
 -- a line of the list is among its lines
 pub line_among : (ls : List ℕ) (j : ℕ) → j < length ls / 3 → Memᴰ (line_in ls j) (lines_of ls)

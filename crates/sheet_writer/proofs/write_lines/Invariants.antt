@@ -1,0 +1,15 @@
+use Prim.Native.Nat.{◌≤◌, ◌<◌, ◌-◌, ◌/◌}
+use mathlib.Core.List.{map}
+use mathlib.Core.Path.{◌≡◌}
+use lib.ListN.{length}
+use Rattle.laws.specs.Lists.{upto}
+use Rattle.rules.specs.Sheet.{line_bits}
+use Rattle.sheet_writer.specs.Writing.{line_in}
+use Rattle.sheet_writer.specs.Pen.{Added}
+use Rattle.sheet_writer.proofs.write_lines.Given as goal
+
+abbrev pub invariant-loop-j : goal.invariant-loop-j
+invariant-loop-j l = (l.j ≤ l.m) × (l.m ≡ length l.lines / 3) × (l.next.count < 8) × Added (line_bits (map (line_in l.lines) (upto l.j 0))) l.initial.next l.initial.bytes l.next l.bytes
+
+abbrev pub decreases-loop-j : goal.decreases-loop-j
+decreases-loop-j l = l.m - l.j
