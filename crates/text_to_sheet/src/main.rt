@@ -1,19 +1,20 @@
 // Text on standard input, its sheet's bytes on standard output; or one message on standard error and no output.
 #![tactic(auto)]
 
-use libc::{STDIN_FILENO, STDOUT_FILENO};
 use refusal::say_line;
+use std::io;
+use streams::read_full;
 use text::sheet_of::sheet_of;
 
-fn main() {
+fn main(rt: HostRuntime) -> io::Result<()> {
     let mut text = [0u8; 131073];
     let mut bytes = [0u8; 5507];
-    let n = io::read_full(STDIN_FILENO, &mut text);
+    let n = read_full(&mut rt.stdin(), &mut text)?;
     let made = sheet_of(&text[..n], &mut bytes);
     if made.number != 0 {
-        say_line(made.line, made.number);
-        return;
+        say_line(&rt, made.line, made.number);
+        return Ok(());
     }
     let count = made.count;
-    io::write_all(STDOUT_FILENO, &bytes[..count]);
+    rt.write_all(&bytes[..count])
 }
