@@ -6,7 +6,6 @@ that no program says is what stands on the line for which a sheet is refused; `L
 """
 import functools
 import os
-import platform
 import re
 import subprocess
 import sys
@@ -24,10 +23,10 @@ class Refused(Exception):
         self.status = status
 
 
-def rt(*words):
-    """The Rattle kit's command."""
+def rt(folder, *words):
+    """The Rattle kit's command, in a folder; nothing on standard input."""
     try:
-        return subprocess.run(["rt", *words], cwd=ROOT, capture_output=True, text=True)
+        return subprocess.run(["rt", *words], cwd=folder, capture_output=True, text=True, stdin=subprocess.DEVNULL)
     except FileNotFoundError:
         raise Refused("the Rattle kit's command rt is not there; README says what is needed", 2)
 
@@ -53,33 +52,30 @@ def sources(name):
 
 @functools.lru_cache(None)
 def built(name):
-    """The program's path, after building and proving it where that is missing."""
-    path = os.path.join(ROOT, "target", "bin", name)
-    if not os.path.exists(path) or any(os.path.getmtime(path) < os.path.getmtime(f) for f in sources(name)):
+    """The program's path, after building and proving it where that is missing: rt run does both, and then runs it once."""
+    folder = os.path.join(ROOT, "crates", name)
+    path = os.path.join(folder, "out", name)
+
+    def is_new():
+        return os.path.exists(path) and all(os.path.getmtime(path) >= os.path.getmtime(f) for f in sources(name))
+
+    if not is_new():
         print(f"building and proving the program {name}, which takes some minutes", file=sys.stderr)
-        done = rt("check", name)
-        if done.returncode:
+        before = os.path.getmtime(path) if os.path.exists(path) else None
+        done = rt(folder, "run")
+        # what rt says when nothing had to be built anew, too, ends with the program's own run
+        if "rt: running out/" in done.stderr + done.stdout and os.path.exists(path) and os.path.getmtime(path) == before:
+            os.utime(path)
+        if not is_new():
             last = "\n".join((done.stdout + done.stderr).splitlines()[-20:])
             raise Refused(f"{last}\nthe program {name} could not be built", 2)
-        os.utime(path)
     return path
-
-
-@functools.lru_cache(None)
-def starter():
-    """How a program is started. Programs are for x86-64; the kit has their loader, and an emulator where the machine is another."""
-    kit = os.path.dirname(os.path.dirname(rt("doc").stdout.strip()))
-    tools = os.path.join(kit, "on", platform.machine(), "toolchain")
-    emulator = os.path.join(tools, "bin", "qemu-x86_64")
-    library = os.path.join(tools, "lib")
-    start = [emulator] if os.access(emulator, os.X_OK) else []
-    return start + [os.path.join(library, "ld-linux-x86-64.so.2"), "--library-path", library]
 
 
 def run(name, given=b"", folder=None):
     """What a program writes to standard output and standard error."""
     path = built(name)
-    done = subprocess.run(starter() + [path], input=given, cwd=folder, capture_output=True)
+    done = subprocess.run([path], input=given, cwd=folder, capture_output=True)
     if done.returncode:
         raise Refused(f"the program {name} ended with status {done.returncode}", 2)
     return done.stdout, done.stderr.decode()

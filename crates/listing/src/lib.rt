@@ -3,8 +3,9 @@
 
 ghost use Rattle.std.specs.Prelude.{◌≤◌, length, ◌≡◌};
 ghost use Rattle.rules.specs.Checks.{patch_limits, sheet_verdict};
-ghost use Rattle.io.specs.Counts.{IsPrefixLen};
+ghost use Rattle.streams.specs.Counts.{IsPrefixLen};
 
+use itoa::Buffer;
 use sheet_reader::read;
 
 // 0 and the text's bytes, or the reader's number and the line of the sheet that it is about.
@@ -43,9 +44,8 @@ fn labelled(out: &mut [u8], at: usize, label: &[u8], n: u16) -> usize
     ensures { result ≤ length out.new }
 {
     let next = put(out, at, label);
-    let mut digits = [0u8; 20];
-    let k = io::decimal(wide(n), &mut digits);
-    put(out, next, &digits[..k])
+    let mut digits = Buffer::new();
+    put(out, next, digits.format(wide(n)).as_bytes())
 }
 
 // A kind, after its word.

@@ -14,7 +14,7 @@ use Rattle.rules.proofs.RoundTrip.{written_long, written_accepted}
 use Rattle.rules.proofs.ReadWrite.{length_lines_of, writer_either, writer_untouched}
 use Rattle.sheet_writer.specs.declared.WriteAnswer.{WriteAnswer}
 use Rattle.sheet_writer.specs.Answers.{as_written}
-use Rattle.io.specs.Counts.{IsPrefixLen}
+use Rattle.streams.specs.Counts.{IsPrefixLen}
 use Rattle.text.specs.declared.sheet_of.TextSheet.{TextSheet}
 use Rattle.text.specs.Sheets.{Wrote, Made}
 
@@ -47,7 +47,3 @@ made ks ls out r left W = let m = made_of ks ls out in record {
   refused = λ f. W.count ∙ m.1 (λ z. f (W.number ∙ z));
   rest = rw (W.count, W.bytes) m.2;
 }
-
--- and so is a refusal that counts nothing and leaves the bytes as they were
-pub unmade : (r : TextSheet) (lent : List ℕ) → (r.number ≡ 0 → ⊥) → r.count ≡ 0 → Made r lent lent
-unmade r lent f z = record { accepted = λ e. absurd (f e); refused = λ g. z; rest = refl }

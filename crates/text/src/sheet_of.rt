@@ -1,7 +1,7 @@
 // A text's sheet, by the proved writer, or the refusal and the line of the text that it is about.
 ghost use Rattle.std.specs.Prelude.{◌≤◌, length};
 ghost use Rattle.rules.specs.Calls.{writer};
-ghost use Rattle.io.specs.Counts.{IsPrefixLen};
+ghost use Rattle.streams.specs.Counts.{IsPrefixLen};
 ghost use Rattle.text.specs.Sheets.{Wrote, Made};
 
 use crate::lists::lists;
