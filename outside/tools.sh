@@ -49,9 +49,10 @@ aarch64)
     ;;
 esac
 
-# The proved static library.
+# The proved static library, $archive/libexports.a.
+archive=crates/exports/out
 library() {
-    rt staticlib exports >"$out/staticlib.log" 2>&1 || {
+    (cd crates/exports && rt lib) >"$out/staticlib.log" 2>&1 || {
         cat "$out/staticlib.log"
         return 1
     }
@@ -67,10 +68,10 @@ rust_side() {
 rust_program() {
     # shellcheck disable=SC2086
     $rustc --edition 2021 -C opt-level=3 $rust_flags --cfg library --extern "outside=$out/liboutside.rlib" \
-        -L native=target/staticlib "outside/src/bin/$1.rs" -o "$out/$1"
+        -L "native=$archive" "outside/src/bin/$1.rs" -o "$out/$1"
 }
 
 c_program() {
     # shellcheck disable=SC2086
-    $cc -std=c11 -O2 -Wall -Wextra -Werror outside/c/calls.c target/staticlib/libexports.a -o "$out/calls"
+    $cc -std=c11 -O2 -Wall -Wextra -Werror outside/c/calls.c "$archive/libexports.a" -o "$out/calls"
 }

@@ -1,6 +1,6 @@
 // Find Figure, the program: its data/ is bench c.
 #![tactic(auto)]
 
-fn main() {
-    show::find_and_print();
+fn main(rt: HostRuntime) {
+    show::find_and_print(&rt);
 }
