@@ -1,26 +1,21 @@
--- The walk over rows: what is known before each row and where it ends. Assumes nothing.
+-- The walk over rows: what is known before each row. Assumes nothing.
 use Prim.Native.Nat.{ℕ, ◌+◌, ◌*◌, ◌/◌, ◌≤◌, ◌<◌}
-use mathlib.Core.Path.{◌≡◌, refl, ap, sym, subst, ◌∙◌}
+use mathlib.Core.Path.{◌≡◌, ap, sym, subst, ◌∙◌}
 use mathlib.Core.Bool.{Bool}
 use mathlib.Core.List.{List}
 use native.Mathlib.Decide.{ℕ_discrete}
 use native.Mathlib.Nat.{suc-mul, mul-le-mul_right, div-mul-le_self, le_trans}
 use native.Mathlib.Omega.{arith}
-use lib.ListN.{length, length-replicate, replicate}
+use lib.ListN.{length}
 use Rattle.rules.specs.Place.{Figure, Patch, Place}
-use Rattle.rules.specs.RowCheck.{row_at, Good, Repeats, RowsTested, all_good, not_a_place, repeated}
+use Rattle.rules.specs.RowCheck.{row_at, Good, Repeats}
 use Rattle.row_tests.specs.Says.{Says}
 use Rattle.row_tests.specs.Against.{Against}
-use Rattle.row_tests.specs.Marks.{Noted}
 use Rattle.row_tests.proofs.Rows.{row_long}
 
 -- a row below the count lies in the list
 pub row_fits : (n i len : ℕ) → i < len / n → i * n + n ≤ len
 row_fits n i len h = omega (arith, suc-mul i n, le_trans (mul-le-mul_right n h) (div-mul-le_self len n))
-
--- before the first row no mark is asked for
-pub none_noted : (n : ℕ) (rows : List ℕ) → Noted n rows 0 (replicate 8_192 0)
-none_noted n rows = record { words = length-replicate {A = ℕ} 8_192 0; met = λ j h. absurd (omega arith) }
 
 -- a part of the list that is row i is tested against what a row of n entries is
 pub row_against : (n i : ℕ) (rows row t : List ℕ) (size : ℕ) (kinds first second : List ℕ) (m : ℕ) → i * n + n ≤ length rows → row ≡ row_at n rows i → (F : Figure) (P : Patch) → Against F P t size kinds first second m n → Against F P t size kinds first second m (length row)
@@ -31,9 +26,6 @@ pub row_says : (n i : ℕ) (rows row t : List ℕ) (size : ℕ) (kinds first sec
 row_says n i rows row t size kinds first second m b fits e says F P A = subst (λ r. Says b (Place F P r)) e (says F P (row_against n i rows row t size kinds first second m fits e F P A))
 
 module _ {F : Figure} {P : Patch} {rows : List ℕ} where
-  pub good_none : Good F P rows 0
-  good_none = record { places = λ i h. absurd (omega arith); different = λ i j h k. absurd (omega arith) }
-
   module _ (n : ℕ) (sized : F.graph.size ≡ n) {i : ℕ} (G : Good F P rows i) where
     at_size : Place F P (row_at n rows i) → Place F P (row_at F.graph.size rows i)
     at_size = subst (λ x. Place F P (row_at x rows i)) (sym sized)
@@ -47,14 +39,3 @@ module _ {F : Figure} {P : Patch} {rows : List ℕ} where
         | no e ↦ G.different j k h (omega arith) same
       ];
     }
-
-    -- or the first bad one
-    pub stops_at_place : (k : ℕ) → i < k → (Place F P (row_at n rows i) → ⊥) → RowsTested F P rows k 43 i
-    stops_at_place k h un = not_a_place refl (record { there = h; before = G }) (λ p. un (subst (λ x. Place F P (row_at x rows i)) sized p))
-
-    pub stops_at_repeat : (k : ℕ) → i < k → Place F P (row_at n rows i) → Repeats n rows i → RowsTested F P rows k 44 i
-    stops_at_repeat k h p r = repeated refl (record { there = h; before = G }) (at_size p) (subst (λ x. Repeats x rows i) (sym sized) r)
-
-  -- or all are good
-  pub walks_through : {i : ℕ} (k : ℕ) → i ≤ k → k ≤ i → Good F P rows i → RowsTested F P rows k 0 0
-  walks_through {i} k a b G = let e : i ≡ k = omega arith in all_good refl refl (subst (Good F P rows) e G)

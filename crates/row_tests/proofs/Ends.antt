@@ -2,11 +2,9 @@
 use Prim.Native.Nat.{ℕ, ◌+◌, ◌*◌, ◌≤◌, ◌<◌}
 use mathlib.Core.Path.{◌≡◌, ap, sym, ◌∙◌}
 use mathlib.Core.List.{List, map, map-map}
-use native.Mathlib.Decide.{ℕ_discrete}
 use native.Mathlib.Nat.{zero-add}
 use native.Mathlib.Omega.{arith}
-use lib.ListN.{length, get_or, set, replicate, length-set, length-replicate, length-map}
-use lib.Seq.{get_or-set_same, get_or-set_other}
+use lib.ListN.{length, get_or, length-map}
 use Rattle.laws.specs.Lists.{upto}
 use Rattle.laws.proofs.Lists.{length_map_upto, get_d_map_upto}
 use Rattle.rules.specs.Sheet.{Line, vertex_count, line_count, line_at, lines_held}
@@ -23,20 +21,6 @@ pub record EndsRead (bytes : List ℕ) (n : ℕ) (first second : List ℕ) (j : 
   pub firsts : length first ≡ 64
   pub seconds : length second ≡ 64
   pub are : (k : ℕ) → k < j → (get_or first k 0 ≡ (line_on bytes n k).first) × (get_or second k 0 ≡ (line_on bytes n k).second)
-
-pub none_read : (bytes : List ℕ) (n : ℕ) → EndsRead bytes n (replicate 64 0) (replicate 64 0) 0
-none_read bytes n = record { firsts = length-replicate {A = ℕ} 64 0; seconds = length-replicate {A = ℕ} 64 0; are = λ k h. absurd (omega arith) }
-
--- one line more
-pub one_read : {bytes first second : List ℕ} {n j : ℕ} → EndsRead bytes n first second j → j < 64 → (l : Line) → l ≡ line_on bytes n j → EndsRead bytes n (set first j l.first) (set second j l.second) (j + 1)
-one_read {bytes} {first} {second} {n} {j} R h l e = record {
-  firsts = length-set first j l.first ∙ R.firsts;
-  seconds = length-set second j l.second ∙ R.seconds;
-  are = λ k b. elim (ℕ_discrete k j) [
-    | yes q ↦ rw q (get_or-set_same first j l.first 0 (omega (arith, R.firsts)) ∙ ap (λ x. x.first) e, get_or-set_same second j l.second 0 (omega (arith, R.seconds)) ∙ ap (λ x. x.second) e)
-    | no q ↦ let r = R.are k (omega arith) in (get_or-set_other first j k l.first 0 q ∙ r.0, get_or-set_other second j k l.second 0 q ∙ r.1)
-  ];
-}
 
 module _ {bytes : List ℕ} (A : Accepted figure_limits bytes) where
   lines_many : length (figure_of bytes).graph.lines ≡ line_count bytes

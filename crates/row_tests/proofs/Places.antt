@@ -41,9 +41,6 @@ module _ {F : Figure} {P : Patch} {t : List ℕ} {size : ℕ} {kinds first secon
         let b : entry row u < size = omega (arith, p.inside u k, A.patch_size) in
         (b, A.tables.kinds (entry row u) (omega (arith, size_small)) ∙ sym (eqb-true _ _ (p.kinds u k)) ∙ sym (A.kinds_held_lem u (omega arith)))
 
-    pub place_apart : Place F P row → Apart row
-    place_apart p u w a b = p.apart u w (omega (arith, A.figure_size)) (omega (arith, A.figure_size))
-
     pub place_lines : Place F P row → LinesKept t first second m row
     place_lines p j h =
         let i : Memᴰ (get_or F.graph.lines j (0, 0)) F.graph.lines = get_d_in (0, 0) F.graph.lines j (omega (arith, A.ends_held.many)) in
