@@ -3,7 +3,6 @@
 
 ghost use Rattle.std.specs.Prelude.{◌≤◌};
 
-use libc::STDOUT_FILENO;
 use show::{print, print_rows};
 use trials::{Limits, Ran, run, run_lists};
 
@@ -16,33 +15,34 @@ fn allowed(allowance: u32) -> Limits {
     }
 }
 
-// The letter, number, rows and tries on one line; the rows, of n entries each; whether memory and list are as promised.
-fn tell(letter: u8, ran: Ran, n: usize) {
-    io::write_all(STDOUT_FILENO, &[letter, b' ']);
-    print(ran.number as u64, b' ');
-    print(ran.rows as u64, b' ');
-    print(ran.tries as u64, b'\n');
-    print_rows(&ran.list, ran.rows, n);
+// The letter, number, rows and tries on one line; the rows, of n entries each; whether memory and list are as promised. A write that fails is let go.
+fn tell(rt: &impl Print, letter: u8, ran: Ran, n: usize) {
+    let _ = rt.write_all(&[letter, b' ']);
+    print(rt, ran.number as u64, b' ');
+    print(rt, ran.rows as u64, b' ');
+    print(rt, ran.tries as u64, b'\n');
+    print_rows(rt, &ran.list, ran.rows, n);
     if ran.kept {
-        io::write_all(STDOUT_FILENO, b"as promised\n");
+        let _ = rt.write_all(b"as promised\n");
     } else {
-        io::write_all(STDOUT_FILENO, b"not as promised\n");
+        let _ = rt.write_all(b"not as promised\n");
     }
 }
 
 // Benches c, d and e: one figure and patch, under limits.
-fn forked(letter: u8, limits: Limits) {
+fn forked(rt: &impl Print, letter: u8, limits: Limits) {
     let fl = [1u16, 0, 1];
     let pl = [1u16, 0, 1, 1, 0, 2];
     let ran = run_lists(&[1, 2], &fl, &[1, 2, 2], &pl, limits);
-    tell(letter, ran, 2);
+    tell(rt, letter, ran, 2);
 }
 
 // Bench e, with room for so many rows.
-fn forked_in(room: usize)
+fn forked_in(rt: &impl Print, room: usize)
     requires { room ≤ 2 }
 {
     forked(
+        rt,
         b'e',
         Limits {
             memory: 22528,
@@ -52,62 +52,64 @@ fn forked_in(room: usize)
     );
 }
 
-fn mirrored() {
+fn mirrored(rt: &impl Print) {
     let l = [1u16, 0, 1];
     tell(
+        rt,
         b'f',
         run_lists(&[2, 2], &l, &[2, 2], &l, allowed(1000000)),
         2,
     );
 }
 
-fn ringed() {
+fn ringed(rt: &impl Print) {
     let fl = [1u16, 0, 1, 1, 0, 2, 1, 1, 2];
     let pl = [1u16, 0, 1, 1, 0, 3, 1, 1, 2, 1, 2, 3];
     let ran = run_lists(&[3, 3, 3], &fl, &[3, 3, 3, 3], &pl, allowed(1000000));
-    tell(b'g', ran, 3);
+    tell(rt, b'g', ran, 3);
 }
 
-fn starred() {
+fn starred(rt: &impl Print) {
     let fl = [1u16, 0, 1, 1, 0, 2, 1, 0, 3];
     let pl = [1u16, 0, 1, 1, 0, 2, 1, 0, 3, 1, 0, 4];
     let ran = run_lists(&[1, 2, 3, 2], &fl, &[1, 2, 3, 3, 3], &pl, allowed(1000000));
-    tell(b'h', ran, 4);
+    tell(rt, b'h', ran, 4);
 }
 
-fn swapped() {
+fn swapped(rt: &impl Print) {
     let fl = [1u16, 0, 1, 1, 0, 2, 1, 2, 3];
     let pl = [1u16, 0, 1, 1, 0, 2, 1, 1, 3];
     let ran = run_lists(&[1, 2, 2, 4], &fl, &[1, 2, 2, 4], &pl, allowed(1000000));
-    tell(b'i', ran, 4);
+    tell(rt, b'i', ran, 4);
 }
 
 // Bench j: a figure of one vertex.
-fn single(kind: u16, allowance: u32) {
+fn single(rt: &impl Print, kind: u16, allowance: u32) {
     let none = [0u16; 0];
     let ran = run_lists(&[kind], &none, &[5, 5, 5], &none, allowed(allowance));
-    tell(b'j', ran, 1);
+    tell(rt, b'j', ran, 1);
 }
 
 // Bench k: a figure of 33 vertices of kind 0 without lines.
-fn too_many() {
+fn too_many(rt: &impl Print) {
     let mut sheet = [0u8; 28];
     sheet[0] = 0x08;
     sheet[1] = 0x40;
     let ran = run(&sheet, &[0x00, 0x40, 0x00, 0x50], 33, allowed(1000000));
-    tell(b'k', ran, 33);
+    tell(rt, b'k', ran, 33);
 }
 
 // Bench k: two unjoined vertices.
-fn apart() {
+fn apart(rt: &impl Print) {
     let none = [0u16; 0];
     let ran = run_lists(&[5, 5], &none, &[5, 5, 5], &none, allowed(1000000));
-    tell(b'k', ran, 2);
+    tell(rt, b'k', ran, 2);
 }
 
 // Bench k: working memory one number too short, for the figure and the patch of c.
-fn short() {
+fn short(rt: &impl Print) {
     forked(
+        rt,
         b'k',
         Limits {
             memory: 22527,
@@ -117,20 +119,20 @@ fn short() {
     );
 }
 
-fn main() {
-    forked(b'c', allowed(1000000));
-    forked(b'd', allowed(2));
-    forked(b'd', allowed(3));
-    forked_in(1);
-    forked_in(2);
-    mirrored();
-    ringed();
-    starred();
-    swapped();
-    single(5, 1000000);
-    single(6, 1000000);
-    single(6, 0);
-    too_many();
-    apart();
-    short();
+fn main(rt: HostRuntime) {
+    forked(&rt, b'c', allowed(1000000));
+    forked(&rt, b'd', allowed(2));
+    forked(&rt, b'd', allowed(3));
+    forked_in(&rt, 1);
+    forked_in(&rt, 2);
+    mirrored(&rt);
+    ringed(&rt);
+    starred(&rt);
+    swapped(&rt);
+    single(&rt, 5, 1000000);
+    single(&rt, 6, 1000000);
+    single(&rt, 6, 0);
+    too_many(&rt);
+    apart(&rt);
+    short(&rt);
 }

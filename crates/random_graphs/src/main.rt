@@ -7,7 +7,6 @@ mod draw;
 ghost use Rattle.std.specs.Prelude.{◌<◌, ◌≤◌};
 
 use crate::draw::{Graph, below, draw_graph};
-use libc::STDOUT_FILENO;
 use matcher::{are_places, count_places, equal, first, is_connected};
 use show::print;
 use std::num::wrapping_add_u64;
@@ -31,7 +30,7 @@ struct Small {
 }
 
 // Whether the whole call's list holds every place once.
-fn whole_agrees(fk: &[u16], fl: &[u16], pk: &[u16], pl: &[u16], ran: Ran) -> bool {
+fn whole_agrees(fk: &[u16], fl: &[u16], pk: &[u16], pl: &[u16], ran: &Ran) -> bool {
     if ran.number != 0 {
         return false;
     }
@@ -45,7 +44,7 @@ fn whole_agrees(fk: &[u16], fl: &[u16], pk: &[u16], pl: &[u16], ran: Ran) -> boo
 }
 
 // Whether the numbers of a call under limits go with those of the whole call.
-fn numbers_agree(whole: Ran, part: Ran, small: Small) -> bool {
+fn numbers_agree(whole: &Ran, part: &Ran, small: Small) -> bool {
     let room = small.room;
     let allowance = small.allowance;
     if room < part.rows {
@@ -72,7 +71,7 @@ fn numbers_agree(whole: Ran, part: Ran, small: Small) -> bool {
     false
 }
 
-fn same_counts(ran: Ran, rows: usize, tries: u32) -> bool {
+fn same_counts(ran: &Ran, rows: usize, tries: u32) -> bool {
     if ran.rows == rows {
         return ran.tries == tries;
     }
@@ -80,7 +79,7 @@ fn same_counts(ran: Ran, rows: usize, tries: u32) -> bool {
 }
 
 // Whether a call under limits agrees with the whole call: its rows are the first of the whole call's.
-fn part_agrees(whole: Ran, part: Ran, small: Small) -> bool {
+fn part_agrees(whole: &Ran, part: &Ran, small: Small) -> bool {
     if !part.kept {
         return false;
     }
@@ -157,7 +156,7 @@ fn mark(b: bool) -> u64 {
 }
 
 // A case of two calls, of which the first agrees with the matcher.
-fn judged(whole: Ran, part: Ran, small: Small) -> Case {
+fn judged(whole: &Ran, part: &Ran, small: Small) -> Case {
     Case {
         agreed: mark(part_agrees(whole, part, small)),
         places: whole.rows as u64,
@@ -168,12 +167,12 @@ fn judged(whole: Ran, part: Ran, small: Small) -> Case {
 }
 
 // The second call of a case, under limits that are drawn from t on.
-fn try_limits(fk: &[u16], fl: &[u16], pk: &[u16], pl: &[u16], whole: Ran, t: u64) -> Case {
+fn try_limits(fk: &[u16], fl: &[u16], pk: &[u16], pl: &[u16], whole: &Ran, t: u64) -> Case {
     let k = t % 1000000000;
     let small = drawn_small(k, whole.rows, whole.tries);
     let limits = drawn_limits(k, small, fk.len());
     let part = run_lists(fk, fl, pk, pl, limits);
-    judged(whole, part, small)
+    judged(whole, &part, small)
 }
 
 // A case of one call.
@@ -196,19 +195,19 @@ fn try_lists(fk: &[u16], fl: &[u16], pk: &[u16], pl: &[u16], t: u64) -> Case {
     };
     let whole = run_lists(fk, fl, pk, pl, ample);
     if is_connected(fl, fk.len()) {
-        if whole_agrees(fk, fl, pk, pl, whole) {
-            return try_limits(fk, fl, pk, pl, whole, t);
+        if whole_agrees(fk, fl, pk, pl, &whole) {
+            return try_limits(fk, fl, pk, pl, &whole, t);
         }
         return lone(0, 11);
     }
-    if is_refused(whole) {
+    if is_refused(&whole) {
         return lone(1, 3);
     }
     lone(0, 11)
 }
 
 // Whether the answer is 16 with nothing changed.
-fn is_refused(ran: Ran) -> bool {
+fn is_refused(ran: &Ran) -> bool {
     if ran.number != 16 {
         return false;
     }
@@ -292,13 +291,14 @@ fn add_cases(sums: &mut [u64], count: u64)
     }
 }
 
-fn tell(what: &[u8], n: u64) {
-    io::write_all(STDOUT_FILENO, what);
-    print(n, b'\n');
+// A write that fails is let go.
+fn tell(rt: &impl Print, what: &[u8], n: u64) {
+    let _ = rt.write_all(what);
+    print(rt, n, b'\n');
 }
 
 // Each sum on a line, after its 18 bytes of the labels.
-fn tell_sums(labels: &[u8], sums: &[u64]) {
+fn tell_sums(rt: &impl Print, labels: &[u8], sums: &[u64]) {
     let mut i = 0;
     let mut a = 0;
     while i < sums.len() {
@@ -306,16 +306,17 @@ fn tell_sums(labels: &[u8], sums: &[u64]) {
             return;
         }
         let e = a + 18;
-        tell(&labels[a..e], sums[i]);
+        tell(rt, &labels[a..e], sums[i]);
         a = e;
         i += 1;
     }
 }
 
-fn main() {
+fn main(rt: HostRuntime) {
     let mut sums = [20261115u64, 4000, 0, 0, 0, 0, 0, 0, 0, 0, 0];
     add_cases(&mut sums, 4000);
     tell_sums(
+        &rt,
         b"seed              cases             agreed            16 not connected  0 whole           0, with a place   places            tries             0 under limits    1 under limits    2 under limits    ",
         &sums,
     );

@@ -1,4 +1,5 @@
 // A log of what came back: how often each number did, and behind the forty counts a digest of all of it.
+use std::io;
 use std::num::wrapping_add_u64;
 
 // A digest with one number more.
@@ -55,32 +56,30 @@ pub(crate) fn note(log: &mut [u64], number: u16, line: u16) {
 }
 
 // The digest of a part, then each number with its count.
-pub(crate) fn print_part(log: &[u64]) {
+pub(crate) fn print_part(rt: &impl Print, log: &[u64]) -> io::Result<()> {
     if log.len() != 41 {
-        return;
+        return Ok(());
     }
-    io::print_decimal(1, log[40]);
+    rt.print(log[40])?;
     let mut i: u64 = 0;
     while i < 40 {
-        print_count(log, i);
+        print_count(rt, log, i)?;
         i += 1;
     }
-    end_line();
+    end_line(rt)
 }
 
-fn end_line() {
-    io::write_all(1, b"\n");
+fn end_line(rt: &impl Print) -> io::Result<()> {
+    rt.println("")
 }
 
-fn print_count(log: &[u64], i: u64) {
+fn print_count(rt: &impl Print, log: &[u64], i: u64) -> io::Result<()> {
     let k = i as usize;
     if k < log.len() {
         let x = log[k];
         if 0 < x {
-            io::write_all(1, b" ");
-            io::print_decimal(1, i);
-            io::write_all(1, b":");
-            io::print_decimal(1, x);
+            print!(rt; " {i}:{x}")?;
         }
     }
+    Ok(())
 }

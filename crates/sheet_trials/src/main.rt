@@ -9,16 +9,17 @@ mod run;
 use crate::digest::print_part;
 use crate::run::{damage, one_drawn, one_large, one_noise, one_random, one_written};
 use draws::next;
+use std::io;
 
 // The sheets of benches a and b, with every bit flipped and every shorter sheet.
-fn benches() {
+fn benches(rt: &impl Print) -> io::Result<()> {
     let mut log = [0u64; 41];
     log[40] = 1;
     let mut a = [0x00u8, 0x80, 0x04, 0x10, 0x90, 0x00, 0x04];
     let mut b = [0x00u8, 0x40, 0x00, 0x50];
     damage(&mut a, &mut log);
     damage(&mut b, &mut log);
-    print_part(&log);
+    print_part(rt, &log)
 }
 
 // One trial of a part, and the place in the sequence after it: a drawn sheet with all its damage, random bytes under their counts, random bytes, or lists to write.
@@ -44,26 +45,26 @@ fn turns(part: u32, count: u32, log: &mut [u64]) {
     }
 }
 
-fn show(part: u32, count: u32) {
+fn show(rt: &impl Print, part: u32, count: u32) -> io::Result<()> {
     let mut log = [0u64; 41];
     log[40] = 2;
     turns(part, count, &mut log);
-    print_part(&log);
+    print_part(rt, &log)
 }
 
 // The longest sheet.
-fn large() {
+fn large(rt: &impl Print) -> io::Result<()> {
     let mut log = [0u64; 41];
     log[40] = 6;
     one_large(next(15), &mut log);
-    print_part(&log);
+    print_part(rt, &log)
 }
 
-fn main() {
-    benches();
-    show(1, 12);
-    show(2, 3000);
-    show(3, 2000);
-    show(4, 4000);
-    large();
+fn main(rt: HostRuntime) -> io::Result<()> {
+    benches(&rt)?;
+    show(&rt, 1, 12)?;
+    show(&rt, 2, 3000)?;
+    show(&rt, 3, 2000)?;
+    show(&rt, 4, 4000)?;
+    large(&rt)
 }

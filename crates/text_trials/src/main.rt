@@ -6,6 +6,7 @@ mod trial;
 
 use crate::trial::{Tally, trial};
 use draws::{below, next};
+use std::io;
 
 // Small sheets of every density, one in eight of any size.
 fn one(tally: Tally, i: u32) -> Tally {
@@ -30,13 +31,11 @@ fn turns(start: Tally, count: u32) -> Tally {
     tally
 }
 
-fn print(label: &[u8], n: u64) {
-    io::write_all(1, label);
-    io::print_decimal(1, n);
-    io::write_all(1, b"\n");
+fn print(rt: &impl Print, label: &str, n: u64) -> io::Result<()> {
+    println!(rt; "{label}{n}")
 }
 
-fn main() {
+fn main(rt: HostRuntime) -> io::Result<()> {
     let mut tally = Tally {
         seed: 20261115,
         sheets: 0,
@@ -44,12 +43,12 @@ fn main() {
         refused: 0,
         digest: 1,
     };
-    print(b"seed ", tally.seed as u64);
+    print(&rt, "seed ", tally.seed as u64)?;
     tally = turns(tally, 160);
     // the largest sheet: 512 vertices, 2,048 lines
     tally = trial(tally, 512, 2);
-    print(b"sheets the same ", tally.sheets as u64);
-    print(b"texts the same ", tally.texts as u64);
-    print(b"damaged texts refused ", tally.refused as u64);
-    print(b"digest ", tally.digest);
+    print(&rt, "sheets the same ", tally.sheets as u64)?;
+    print(&rt, "texts the same ", tally.texts as u64)?;
+    print(&rt, "damaged texts refused ", tally.refused as u64)?;
+    print(&rt, "digest ", tally.digest)
 }

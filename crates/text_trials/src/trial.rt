@@ -1,8 +1,7 @@
 // One trial: a drawn sheet into text and back, and the text damaged.
 ghost use Rattle.std.specs.Prelude.{◌<◌};
-ghost use Rattle.io.specs.Counts.{IsPrefixLen};
+ghost use Rattle.streams.specs.Counts.{IsPrefixLen};
 
-use check::same;
 use draws::{Drawn, below, draw_lists, next};
 use listing::text_of;
 use sheet_writer::write;
@@ -118,7 +117,7 @@ fn damages(start: Tally, text: &mut [u8]) -> Tally {
 
 // One more where the bytes are the same.
 fn counted(n: u32, a: &[u8], b: &[u8]) -> u32 {
-    if same(a, b) {
+    if a == b {
         return wrapping_add_u32(n, 1);
     }
     n
