@@ -22,7 +22,7 @@ module _ (f : List ℕ) (A : Accepted figure_limits f) (n m : ℕ) (kinds near d
     vertex = H.vertex;
     few = H.few;
     drawn = (figure_drawn f A).1;
-    kinds_held_lem = H.kind_of;
+    kinds_held = H.kind_of;
     ends_held = E;
   }
 

@@ -39,7 +39,7 @@ module _ {F : Figure} {P : Patch} {t : List ℕ} {size : ℕ} {kinds first secon
     place_fits p u h =
         let k : u < F.graph.size = omega (arith, A.figure_size) in
         let b : entry row u < size = omega (arith, p.inside u k, A.patch_size) in
-        (b, A.tables.kinds (entry row u) (omega (arith, size_small)) ∙ sym (eqb-true _ _ (p.kinds u k)) ∙ sym (A.kinds_held_lem u (omega arith)))
+        (b, A.tables.kinds (entry row u) (omega (arith, size_small)) ∙ sym (eqb-true _ _ (p.kinds u k)) ∙ sym (A.kinds_held u (omega arith)))
 
     pub place_lines : Place F P row → LinesKept t first second m row
     place_lines p j h =
@@ -52,7 +52,7 @@ module _ {F : Figure} {P : Patch} {t : List ℕ} {size : ℕ} {kinds first secon
     tests_place K apart kept = record {
       whole = sym long ∙ sym A.figure_size;
       inside = λ u h. omega (arith, (K u (here u h)).0, A.patch_size);
-      kinds = λ u h. eq-eqb _ _ (sym (A.kinds_held_lem u (omega (arith, A.figure_size))) ∙ sym (K u (here u h)).1 ∙ A.tables.kinds (entry row u) (fit_within K u (here u h)));
+      kinds = λ u h. eq-eqb _ _ (sym (A.kinds_held u (omega (arith, A.figure_size))) ∙ sym (K u (here u h)).1 ∙ A.tables.kinds (entry row u) (fit_within K u (here u h)));
       apart = λ u w h k. apart u w (here u h) (here w k);
       lines = λ l i. let q = get_d_out (0, 0) i in let b : q.0 < m = omega (arith, q.1, A.ends_held.many) in subst (λ e. joined P.graph (entry row e.0) (entry row e.1) ≡ true) (sym (q.2 ∙ A.ends_held.ends q.0 b)) (line_joined q.0 b (fit_within K) ∙ kept q.0 b);
     }

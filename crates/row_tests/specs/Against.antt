@@ -35,5 +35,5 @@ pub record Against (F : Figure) (P : Patch) (t : List ℕ) (size : ℕ) (kinds f
   pub vertex : 0 < n
   pub few : n ≤ 32
   pub drawn : Drawn F.graph
-  pub kinds_held_lem : (u : ℕ) → u < n → get_or kinds u 0 ≡ figure_kind F u
+  pub kinds_held : (u : ℕ) → u < n → get_or kinds u 0 ≡ figure_kind F u
   pub ends_held : HoldsEnds F first second m

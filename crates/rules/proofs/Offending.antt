@@ -17,7 +17,7 @@ use Rattle.laws.specs.Lists.{Ordered}
 use Rattle.laws.proofs.Lists.{split, begun_ordered}
 use Rattle.rules.specs.Sheet.{Line, vertex_count, held}
 use Rattle.rules.specs.Checks.{Verdict, lineless, Check, verdict, Limits, figure_limits, patch_limits, line_fits, comes_after, follows, Drawable, fit_check, order_check, line_checks, Offending, LineTold, offending, no_line_case, sheet_checks, sheet_verdict}
-use Rattle.rules.specs.Calls.{lines_of, reader_checks, writer_checks, figure_checks, pair_checks, LineOfTwo, of_figure_lem, of_patch, of_neither}
+use Rattle.rules.specs.Calls.{lines_of, reader_checks, writer_checks, figure_checks, pair_checks, LineOfTwo, of_figure, of_patch, of_neither}
 use Rattle.rules.proofs.Verdicts.{Positive, verdict_passes, verdict_fails, verdict_none, verdict_passed, verdict_number, verdict_first, verdict_rest}
 use Rattle.rules.proofs.Accepted.{lines_numbered, lines_positive, sheet_positive, figure_positive, lines_iff}
 
@@ -128,13 +128,13 @@ module _ (figure patch : List ℕ) where
   two_none k a b c d = of_neither (eqb-false k 14 a) (eqb-false k 15 b) (eqb-false k 24 c) (eqb-false k 25 d) refl
 
   pub pair_told : (last : Check) → Two last.1 → Two (verdict (pair_checks figure patch last))
-  pair_told last one = answers_append Two (figure_checks figure) _ (figure_positive figure) of_figure (answers_append Two (sheet_checks patch_limits patch) _ (sheet_positive patch_limits patch) (sheet_answer Two patch_limits patch passed (two_none 21 refl refl refl refl) (two_none 22 refl refl refl refl) (two_none 23 refl refl refl refl) (λ v w o. of_patch w o)) (answers_last Two last one passed))
+  pair_told last one = answers_append Two (figure_checks figure) _ (figure_positive figure) of_figure_checks (answers_append Two (sheet_checks patch_limits patch) _ (sheet_positive patch_limits patch) (sheet_answer Two patch_limits patch passed (two_none 21 refl refl refl refl) (two_none 22 refl refl refl refl) (two_none 23 refl refl refl refl) (λ v w o. of_patch w o)) (answers_last Two last one passed))
     where
       passed : Two (lineless 0)
       passed = two_none 0 refl refl refl refl
 
-      of_figure : Two (verdict (figure_checks figure))
-      of_figure = answers_append Two (sheet_checks figure_limits figure) _ (sheet_positive figure_limits figure) (sheet_answer Two figure_limits figure passed (two_none 11 refl refl refl refl) (two_none 12 refl refl refl refl) (two_none 13 refl refl refl refl) (λ v w o. of_figure_lem w o)) (answers_last Two _ (two_none 16 refl refl refl refl) passed)
+      of_figure_checks : Two (verdict (figure_checks figure))
+      of_figure_checks = answers_append Two (sheet_checks figure_limits figure) _ (sheet_positive figure_limits figure) (sheet_answer Two figure_limits figure passed (two_none 11 refl refl refl refl) (two_none 12 refl refl refl refl) (two_none 13 refl refl refl refl) (λ v w o. of_figure w o)) (answers_last Two _ (two_none 16 refl refl refl refl) passed)
 
 -- lines that a sheet may have, from the first on
 drawable_take : (n k : ℕ) (ls : List Line) → Drawable n ls → Drawable n (take k ls)
