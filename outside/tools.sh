@@ -1,6 +1,7 @@
 # Sourced by run, soak and bench: sets what to compile and to run with, and builds under
-# target/outside. The static library is x86-64; on Arm all that links it is cross-compiled with
-# Debian's rustc and gcc and runs under Debian's emulator (the kit's runs no Rust programs).
+# target/outside. The static library is x86-64. What is said of Arm below is of the older kit, which ran
+# there: all that links the library was cross-compiled with Debian's rustc and gcc and ran under Debian's
+# emulator. Today's kit is for x86-64 alone.
 
 out=target/outside
 mkdir -p "$out"

@@ -9,7 +9,7 @@ use streams::read_full;
 fn main(rt: HostRuntime) -> io::Result<()> {
     let mut sheet = [0u8; 5508];
     let mut text = [0u8; 49152];
-    let n = read_full(&mut rt.stdin(), &mut sheet)?;
+    let n = read_full(&mut rt.stdin(), &mut sheet);
     let made = text_of(&sheet[..n], &mut text);
     if made.number != 0 {
         say_of_sheet(&rt, made.line, made.number);

@@ -11,14 +11,14 @@ use std::fs::File;
 use std::rt::Files;
 use streams::read_full;
 
-// What a file holds, up to 5,508 bytes; a file that cannot be opened, or of which a read fails, counts as empty.
+// What a file holds, up to 5,508 bytes; a file that cannot be opened counts as empty.
 fn read_sheet(rt: &impl Files, path: &str, bytes: &mut [u8; 5508]) -> usize
     ensures { IsPrefixLen result bytes.new }
 {
     let Ok(mut file) = File::open(rt, path) else {
         return 0;
     };
-    read_full(&mut file, bytes).unwrap_or(0)
+    read_full(&mut file, bytes)
 }
 
 // A number, and what stands after it; the number printed. A write that fails is let go, here and below.

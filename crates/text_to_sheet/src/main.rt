@@ -9,7 +9,7 @@ use text::sheet_of::sheet_of;
 fn main(rt: HostRuntime) -> io::Result<()> {
     let mut text = [0u8; 131073];
     let mut bytes = [0u8; 5507];
-    let n = read_full(&mut rt.stdin(), &mut text)?;
+    let n = read_full(&mut rt.stdin(), &mut text);
     let made = sheet_of(&text[..n], &mut bytes);
     if made.number != 0 {
         say_line(&rt, made.line, made.number);
