@@ -79,25 +79,25 @@ no_member (x ∷ l) f = absurd (f x (Memᴰ.head refl))
 
 -- members by place
 module _ {A : Type 0} (d : A) where
-  pub get_d_in : (l : List A) (i : ℕ) → i < length l → Memᴰ (get_or l i d) l
-  get_d_in [] i h = absurd (omega arith)
-  get_d_in (x ∷ l) zero h = Memᴰ.head refl
-  get_d_in (x ∷ l) (suc i) h = Memᴰ.tail (get_d_in l i (omega arith))
+  pub get_or_in : (l : List A) (i : ℕ) → i < length l → Memᴰ (get_or l i d) l
+  get_or_in [] i h = absurd (omega arith)
+  get_or_in (x ∷ l) zero h = Memᴰ.head refl
+  get_or_in (x ∷ l) (suc i) h = Memᴰ.tail (get_or_in l i (omega arith))
 
-  pub get_d_out : {x : A} {l : List A} → Memᴰ x l → (i : ℕ) × (i < length l) × (x ≡ get_or l i d)
-  get_d_out (Memᴰ.head e) = (0, omega arith, e)
-  get_d_out (Memᴰ.tail m) = let t = get_d_out m in (suc t.0, suc-le-suc t.1, t.2)
+  pub get_or_out : {x : A} {l : List A} → Memᴰ x l → (i : ℕ) × (i < length l) × (x ≡ get_or l i d)
+  get_or_out (Memᴰ.head e) = (0, omega arith, e)
+  get_or_out (Memᴰ.tail m) = let t = get_or_out m in (suc t.0, suc-le-suc t.1, t.2)
 
   pub take_out : {x : A} (n : ℕ) (l : List A) → Memᴰ x (take n l) → (i : ℕ) × (i < n) × (x ≡ get_or l i d)
   take_out zero l m = absurd (Memᴰ.not-nil m)
   take_out (suc n) [] m = absurd (Memᴰ.not-nil m)
   take_out (suc n) (y ∷ l) m = elim (Memᴰ.cases_cons m) [ inl e ↦ (0, omega arith, e) | inr k ↦ let t = take_out n l k in (suc t.0, suc-le-suc t.1, t.2) ]
 
-  pub ordered_get_d : {R : A → A → Type 0} {l : List A} → Ordered R l → (i j : ℕ) → i < j → j < length l → R (get_or l i d) (get_or l j d)
-  ordered_get_d nil i j h k = absurd (omega arith)
-  ordered_get_d (cons f o) i zero h k = absurd (omega arith)
-  ordered_get_d (cons {l = l} f o) zero (suc j) h k = f _ (get_d_in l j (omega arith))
-  ordered_get_d (cons f o) (suc i) (suc j) h k = ordered_get_d o i j (omega arith) (omega arith)
+  pub ordered_get_or : {R : A → A → Type 0} {l : List A} → Ordered R l → (i j : ℕ) → i < j → j < length l → R (get_or l i d) (get_or l j d)
+  ordered_get_or nil i j h k = absurd (omega arith)
+  ordered_get_or (cons f o) i zero h k = absurd (omega arith)
+  ordered_get_or (cons {l = l} f o) zero (suc j) h k = f _ (get_or_in l j (omega arith))
+  ordered_get_or (cons f o) (suc i) (suc j) h k = ordered_get_or o i j (omega arith) (omega arith)
 
 -- order in lists built up, and in a beginning
 module _ {A : Type 0} {R : A → A → Type 0} where
@@ -163,18 +163,18 @@ pub length_map_upto : {A : Type 0} (f : ℕ → A) (n i : ℕ) → length (map f
 length_map_upto f n i = length-map (upto n i) f ∙ length_upto n i
 
 -- entry j of a map of n numbers from i on
-pub get_d_map_upto : {A : Type 0} (f : ℕ → A) (d : A) (n i j : ℕ) → j < n → get_or (map f (upto n i)) j d ≡ f (i + j)
-get_d_map_upto f d zero i j h = absurd (omega arith)
-get_d_map_upto f d (suc n) i zero h = rw add-zero
-get_d_map_upto f d (suc n) i (suc j) h = get_d_map_upto f d n (suc i) j (omega arith) ∙ rw (add-suc, suc-add)
+pub get_or_map_upto : {A : Type 0} (f : ℕ → A) (d : A) (n i j : ℕ) → j < n → get_or (map f (upto n i)) j d ≡ f (i + j)
+get_or_map_upto f d zero i j h = absurd (omega arith)
+get_or_map_upto f d (suc n) i zero h = rw add-zero
+get_or_map_upto f d (suc n) i (suc j) h = get_or_map_upto f d n (suc i) j (omega arith) ∙ rw (add-suc, suc-add)
 
 -- and of a map of the first n numbers
-pub get_d_first : {A : Type 0} (f : ℕ → A) (d : A) (n j : ℕ) → j < n → get_or (map f (upto n 0)) j d ≡ f j
-get_d_first f d n j h = get_d_map_upto f d n 0 j h ∙ ap f (zero-add j)
+pub get_or_first : {A : Type 0} (f : ℕ → A) (d : A) (n j : ℕ) → j < n → get_or (map f (upto n 0)) j d ≡ f j
+get_or_first f d n j h = get_or_map_upto f d n 0 j h ∙ ap f (zero-add j)
 
 -- a list is a map of the first n numbers, by its entries
 pub firsts : {A : Type 0} (t : List A) (g : ℕ → A) (d : A) (n : ℕ) → length t ≡ n → ((k : ℕ) → k < n → get_or t k d ≡ g k) → t ≡ map g (upto n 0)
-firsts t g d n e h = ext_get_or d t _ (e ∙ sym (length_map_upto g n 0)) (λ k l. h k (omega arith) ∙ sym (get_d_first g d n k (omega arith)))
+firsts t g d n e h = ext_get_or d t _ (e ∙ sym (length_map_upto g n 0)) (λ k l. h k (omega arith) ∙ sym (get_or_first g d n k (omega arith)))
 
 -- maps of numbers one after the other
 pub map_upto_append : {A : Type 0} (f : ℕ → A) (a b i j c : ℕ) → j ≡ i + a → c ≡ a + b → map f (upto a i) ++ map f (upto b j) ≡ map f (upto c i)

@@ -6,7 +6,7 @@ use native.Mathlib.Nat.{zero-add}
 use native.Mathlib.Omega.{arith}
 use lib.ListN.{length, get_or, length-map}
 use Rattle.laws.specs.Lists.{upto}
-use Rattle.laws.proofs.Lists.{length_map_upto, get_d_map_upto}
+use Rattle.laws.proofs.Lists.{length_map_upto, get_or_map_upto}
 use Rattle.rules.specs.Sheet.{Line, vertex_count, line_count, line_at, lines_held}
 use Rattle.rules.specs.Checks.{Accepted, figure_limits}
 use Rattle.rules.specs.Calls.{ends_of, figure_of}
@@ -29,7 +29,7 @@ module _ {bytes : List ℕ} (A : Accepted figure_limits bytes) where
 
   line_is : (j : ℕ) → j < line_count bytes → get_or (figure_of bytes).graph.lines j (0, 0) ≡ ends_of (line_on bytes (vertex_count bytes) j)
   unfolding figure_of lines_held
-  line_is j h = ap (λ l. get_or l j (0, 0)) (maps (upto (line_count bytes) 0)) ∙ get_d_map_upto (λ j. ends_of (line_on bytes (vertex_count bytes) j)) (0, 0) (line_count bytes) 0 j h ∙ ap (λ k. ends_of (line_on bytes (vertex_count bytes) k)) (zero-add j)
+  line_is j h = ap (λ l. get_or l j (0, 0)) (maps (upto (line_count bytes) 0)) ∙ get_or_map_upto (λ j. ends_of (line_on bytes (vertex_count bytes) j)) (0, 0) (line_count bytes) 0 j h ∙ ap (λ k. ends_of (line_on bytes (vertex_count bytes) k)) (zero-add j)
     where
       maps : (l : List ℕ) → map ends_of (map (line_on bytes (vertex_count bytes)) l) ≡ map (λ j. ends_of (line_on bytes (vertex_count bytes) j)) l
       maps l = map-map ends_of (line_on bytes (vertex_count bytes)) l

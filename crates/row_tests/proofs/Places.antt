@@ -7,7 +7,7 @@ use native.Mathlib.Omega.{arith}
 use borrow.Author.Tests.{eqb-true, eq-eqb}
 use lib.ListN.{length, get_or}
 use Rattle.laws.specs.Lists.{has}
-use Rattle.laws.proofs.Lists.{get_d_in, get_d_out}
+use Rattle.laws.proofs.Lists.{get_or_in, get_or_out}
 use Rattle.rules.specs.Graph.{joined}
 use Rattle.rules.specs.Place.{Figure, Patch, Place, entry, kind_fits}
 use Rattle.patch.specs.Tables.{run_at}
@@ -21,7 +21,7 @@ module _ {F : Figure} {P : Patch} {t : List ℕ} {size : ℕ} {kinds first secon
   pub ends_below : (j : ℕ) → j < m → (get_or first j 0 < n) × (get_or second j 0 < n)
   ends_below j h =
       let l = get_or F.graph.lines j (0, 0) in
-      let i : Memᴰ l F.graph.lines = get_d_in (0, 0) F.graph.lines j (omega (arith, A.ends_held.many)) in
+      let i : Memᴰ l F.graph.lines = get_or_in (0, 0) F.graph.lines j (omega (arith, A.ends_held.many)) in
       let e = A.ends_held.ends j h in
       (omega (arith, A.drawn.lower l i, A.drawn.inside l i, ap (λ q. q.0) e, ap (λ q. q.1) e, A.figure_size), omega (arith, A.drawn.inside l i, ap (λ q. q.1) e, A.figure_size))
 
@@ -43,7 +43,7 @@ module _ {F : Figure} {P : Patch} {t : List ℕ} {size : ℕ} {kinds first secon
 
     pub place_lines : Place F P row → LinesKept t first second m row
     place_lines p j h =
-        let i : Memᴰ (get_or F.graph.lines j (0, 0)) F.graph.lines = get_d_in (0, 0) F.graph.lines j (omega (arith, A.ends_held.many)) in
+        let i : Memᴰ (get_or F.graph.lines j (0, 0)) F.graph.lines = get_or_in (0, 0) F.graph.lines j (omega (arith, A.ends_held.many)) in
         sym (line_joined j h (fit_within (place_fits p))) ∙ subst (λ l. joined P.graph (entry row l.0) (entry row l.1) ≡ true) (A.ends_held.ends j h) (p.lines _ i)
 
     -- and what passes them all is a place
@@ -54,7 +54,7 @@ module _ {F : Figure} {P : Patch} {t : List ℕ} {size : ℕ} {kinds first secon
       inside = λ u h. omega (arith, (K u (here u h)).0, A.patch_size);
       kinds = λ u h. eq-eqb _ _ (sym (A.kinds_held u (omega (arith, A.figure_size))) ∙ sym (K u (here u h)).1 ∙ A.tables.kinds (entry row u) (fit_within K u (here u h)));
       apart = λ u w h k. apart u w (here u h) (here w k);
-      lines = λ l i. let q = get_d_out (0, 0) i in let b : q.0 < m = omega (arith, q.1, A.ends_held.many) in subst (λ e. joined P.graph (entry row e.0) (entry row e.1) ≡ true) (sym (q.2 ∙ A.ends_held.ends q.0 b)) (line_joined q.0 b (fit_within K) ∙ kept q.0 b);
+      lines = λ l i. let q = get_or_out (0, 0) i in let b : q.0 < m = omega (arith, q.1, A.ends_held.many) in subst (λ e. joined P.graph (entry row e.0) (entry row e.1) ≡ true) (sym (q.2 ∙ A.ends_held.ends q.0 b)) (line_joined q.0 b (fit_within K) ∙ kept q.0 b);
     }
       where
         here : (u : ℕ) → u < F.graph.size → u < length row

@@ -9,7 +9,7 @@ use lib.Pow.{pow_pos, high, mod-pow-add}
 use lib.Seq.{get_or-append-add}
 use Rattle.laws.specs.Lists.{upto}
 use Rattle.rules.specs.Sheet.{bit_at, word, bits}
-use Rattle.laws.proofs.Lists.{get_d_map_upto}
+use Rattle.laws.proofs.Lists.{get_or_map_upto}
 
 -- a bit of bytes is 0 or 1
 pub bit_at_lt : (bytes : List ℕ) (i : ℕ) → bit_at bytes i < 2
@@ -50,11 +50,11 @@ length_bits zero x = refl
 length_bits (suc w) x = ap suc (length_bits w x)
 
 -- bit j of w bits
-pub get_d_bits : (w x j : ℕ) → j < w → get_or (bits w x) j 0 ≡ x / 2 ^ (w - suc j) % 2
+pub get_or_bits : (w x j : ℕ) → j < w → get_or (bits w x) j 0 ≡ x / 2 ^ (w - suc j) % 2
 unfolding bits
-get_d_bits zero x j h = absurd (omega arith)
-get_d_bits (suc w) x zero h = ap (λ k. x / 2 ^ k % 2) (omega arith)
-get_d_bits (suc w) x (suc j) h = get_d_bits w x j (omega arith) ∙ ap (λ k. x / 2 ^ k % 2) (omega arith)
+get_or_bits zero x j h = absurd (omega arith)
+get_or_bits (suc w) x zero h = ap (λ k. x / 2 ^ k % 2) (omega arith)
+get_or_bits (suc w) x (suc j) h = get_or_bits w x j (omega arith) ∙ ap (λ k. x / 2 ^ k % 2) (omega arith)
 
 -- the word of a number's bits is the number
 word_low : (g : ℕ → ℕ) (i w x : ℕ) → ((j : ℕ) → j < w → g (i + j) ≡ get_or (bits w x) j 0) → word g i w ≡ x % 2 ^ w
@@ -74,12 +74,12 @@ word_at l a c i w x p e h = rw (p, sym e) (word_bits _ (length a) w x h (λ j k.
 
 -- bit j of a word
 pub word_bit : (f : ℕ → ℕ) → ((j : ℕ) → f j < 2) → (i w j : ℕ) → j < w → word f i w / 2 ^ (w - suc j) % 2 ≡ f (i + j)
-word_bit f two i w j h = sym (get_d_bits w (word f i w) j h) ∙ rw (bits_word f two i w) (get_d_map_upto f 0 w i j h)
+word_bit f two i w j h = sym (get_or_bits w (word f i w) j h) ∙ rw (bits_word f two i w) (get_or_map_upto f 0 w i j h)
 
 -- byte k is the word of its eight bits
 pub byte_word : (bytes : List ℕ) (k : ℕ) → get_or bytes k 0 < 256 → word (bit_at bytes) (8 * k) 8 ≡ get_or bytes k 0
 unfolding bit_at
-byte_word bytes k l = word_bits _ (8 * k) 8 (get_or bytes k 0) l (λ j h. place j ((8 * k + j) / 8) ((8 * k + j) % 8) (omega arith) (omega arith) ∙ sym (get_d_bits 8 (get_or bytes k 0) j h))
+byte_word bytes k l = word_bits _ (8 * k) 8 (get_or bytes k 0) l (λ j h. place j ((8 * k + j) / 8) ((8 * k + j) % 8) (omega arith) (omega arith) ∙ sym (get_or_bits 8 (get_or bytes k 0) j h))
   where
     place : (j q r : ℕ) → q ≡ k → r ≡ j → get_or bytes q 0 / 2 ^ (7 - r) % 2 ≡ get_or bytes k 0 / 2 ^ (8 - suc j) % 2
     place j q r e f = rw (e, f) (ap (λ i. get_or bytes k 0 / 2 ^ i % 2) (omega arith))

@@ -14,7 +14,7 @@ use Rattle.rules.specs.Candidates.{set_of}
 use Rattle.rules.specs.Tries.{Plan, Level, Try, level, after, opening, user, takeable, row_of}
 use Rattle.rules.proofs.Lawful.{try_of, Grown, more, Lawful, Earlier, here, later, InOrder}
 use Rattle.rules.proofs.Steps.{try_cases, Siblings, done, skip, turn, level_steps}
-use Rattle.laws.proofs.Lists.{single_ordered, append_ordered, weaken_ordered, get_d_first}
+use Rattle.laws.proofs.Lists.{single_ordered, append_ordered, weaken_ordered, get_or_first}
 use Rattle.rules.proofs.Placements.{takeable_ordered, latest, older, kept}
 use Rattle.rules.proofs.Sound.{siblings_from, unopened, try_from, level_from}
 
@@ -58,7 +58,7 @@ module _ (S : Plan) (L : Lawful S) where
   level_keeps zero {M} {row} g n m w h =
       let e = Memᴰ.eq_of_singleton m in
       let same : row ≡ row_of S.figure M = cc in
-      ap (λ l. entry l w) same ∙ get_d_first (image M) 0 S.figure.graph.size w ((kept S L g).inside w h)
+      ap (λ l. entry l w) same ∙ get_or_first (image M) 0 S.figure.graph.size w ((kept S L g).inside w h)
   level_keeps (suc k) {M} g n m w h =
       let x = level_from S k M m in
       let o = older M (S.next M) x.0 w (L.fresh g (omega arith)) h in

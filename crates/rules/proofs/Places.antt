@@ -11,7 +11,7 @@ use Rattle.rules.specs.Place.{Place, entry}
 use Rattle.rules.specs.Candidates.{set_of}
 use Rattle.rules.specs.Tries.{Plan, level}
 use Rattle.rules.proofs.Lawful.{Lawful, Faithful, Fits}
-use Rattle.laws.proofs.Lists.{length_map_upto, get_d_first, firsts}
+use Rattle.laws.proofs.Lists.{length_map_upto, get_or_first, firsts}
 use Rattle.rules.proofs.Lines.{joined_sym}
 use Rattle.rules.proofs.Complete.{search_lists}
 use Rattle.rules.proofs.Sound.{search_sound}
@@ -45,4 +45,4 @@ module _ (S : Plan) (L : Lawful S) (A : Faithful S) where
       }
         where
           at : (u : ℕ) → u < S.figure.graph.size → entry row u ≡ r u
-          at u h = ap (λ l. get_or l u 0) e ∙ get_d_first r 0 S.figure.graph.size u h
+          at u h = ap (λ l. get_or l u 0) e ∙ get_or_first r 0 S.figure.graph.size u h

@@ -9,7 +9,7 @@ use Rattle.laws.specs.Lists.{upto}
 use Rattle.rules.specs.Sheet.{Line, Sheet, Bytes, bit_at, word, field, vertex_count, line_count, bit_length, byte_length, kinds_held, line_at, lines_held, held, bits, kind_bits, line_bits, layout, packed, written}
 use Rattle.rules.specs.Checks.{Limits, patch_limits, Accepted}
 use Rattle.rules.specs.Calls.{Writable}
-use Rattle.laws.proofs.Lists.{map_upto, map_upto_append, get_d_in, get_d_map_upto, get_d_first, firsts, length_map_upto}
+use Rattle.laws.proofs.Lists.{map_upto, map_upto_append, get_or_in, get_or_map_upto, get_or_first, firsts, length_map_upto}
 use Rattle.rules.proofs.Fields.{bit_at_lt, word_same, bits_word, length_bits, word_at, word_bit, byte_word, Two, two_append, two_bits}
 
 module _ (bytes : List ℕ) where
@@ -37,14 +37,14 @@ module _ (bytes : List ℕ) where
 -- an accepted sheet read and written again is the same bytes
 pub read_written : (L : Limits) (bytes : List ℕ) → Bytes bytes → Accepted L bytes → written (held bytes) ≡ bytes
 unfolding packed kinds_held lines_held
-read_written L bytes small A = rw (length_map_upto (λ k. field bytes (22 + 6 * k) 6) (vertex_count bytes) 0, length_map_upto (λ k. line_at bytes (22 + 6 * vertex_count bytes + 20 * k)) (line_count bytes) 0, ← A.long, layout_run) (map_upto _ (λ k. get_or bytes k 0) (length bytes) 0 (λ k a h. word_same _ (bit_at bytes) (8 * k) 8 (λ j b c. agree j (omega arith)) ∙ byte_word bytes k (small _ (get_d_in 0 bytes k (omega arith)))) ∙ sym (firsts bytes _ 0 (length bytes) refl (λ k h. refl)))
+read_written L bytes small A = rw (length_map_upto (λ k. field bytes (22 + 6 * k) 6) (vertex_count bytes) 0, length_map_upto (λ k. line_at bytes (22 + 6 * vertex_count bytes + 20 * k)) (line_count bytes) 0, ← A.long, layout_run) (map_upto _ (λ k. get_or bytes k 0) (length bytes) 0 (λ k a h. word_same _ (bit_at bytes) (8 * k) 8 (λ j b c. agree j (omega arith)) ∙ byte_word bytes k (small _ (get_or_in 0 bytes k (omega arith)))) ∙ sym (firsts bytes _ 0 (length bytes) refl (λ k h. refl)))
   where
     B : ℕ
     B = bit_length (vertex_count bytes) (line_count bytes)
 
     agree : (j : ℕ) → j < 8 * length bytes → get_or (map (bit_at bytes) (upto B 0)) j 0 ≡ bit_at bytes j
     agree j h = elim (dec_lt j B) [
-      | yes l ↦ get_d_first (bit_at bytes) 0 B j l
+      | yes l ↦ get_or_first (bit_at bytes) 0 B j l
       | no l ↦ get_or-eq_default (map (bit_at bytes) (upto B 0)) 0 {n = j} (rw length_map_upto (omega arith)) ∙ sym (A.filling j (omega arith) h)
     ]
 
@@ -82,7 +82,7 @@ packed_bit : (count : ℕ) (l : List ℕ) → Two l → (j : ℕ) → j < 8 * co
 unfolding bit_at packed
 packed_bit count l two j h =
     let e : 7 - j % 8 ≡ 8 - suc (j % 8) = omega arith in
-    rw (get_d_map_upto (λ i. word (λ k. get_or l k 0) (8 * i) 8) 0 count 0 (j / 8) (omega arith), e) (word_bit (λ k. get_or l k 0) two (8 * (0 + j / 8)) 8 (j % 8) (omega arith) ∙ ap (λ k. get_or l k 0) {x = 8 * (0 + j / 8) + j % 8} {y = j} (omega arith))
+    rw (get_or_map_upto (λ i. word (λ k. get_or l k 0) (8 * i) 8) 0 count 0 (j / 8) (omega arith), e) (word_bit (λ k. get_or l k 0) two (8 * (0 + j / 8)) 8 (j % 8) (omega arith) ∙ ap (λ k. get_or l k 0) {x = 8 * (0 + j / 8) + j % 8} {y = j} (omega arith))
 
 -- kinds and lines are read from their bits
 module _ (l : List ℕ) where

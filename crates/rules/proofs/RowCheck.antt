@@ -12,7 +12,7 @@ use borrow.Author.Tests.{ltb-true, eq-eqb}
 use lib.Dec.{eqb, ltb}
 use lib.ListN.{length, get_or, take, drop}
 use lib.Seq.{take-take, drop-drop, length-take-le}
-use Rattle.laws.proofs.Lists.{has_out, all_out, get_d_in, ordered_get_d}
+use Rattle.laws.proofs.Lists.{has_out, all_out, get_or_in, ordered_get_or}
 use Rattle.rules.specs.Checks.{Verdict, no_line, lineless, verdict, figure_limits, patch_limits, sheet_checks}
 use Rattle.rules.specs.Place.{Figure, Patch, Place}
 use Rattle.rules.specs.Calls.{figure_of, patch_of, figure_checks, Handed, Searched, Taken, search, LineOfTwo, rows_in, found}
@@ -228,7 +228,7 @@ own_list_accepted figure patch memory list allowance t = tested (passes figure p
     listed i h = omega (arith, count, rows_long n r s.list)
 
     places : (i : ℕ) → i < row_count figure rows → Place (figure_of figure) (patch_of patch) (row_at n rows i)
-    places i h = rw (row i h) (demands.sound figure patch memory list allowance _ (get_d_in [] (found figure s) i (listed i h)))
+    places i h = rw (row i h) (demands.sound figure patch memory list allowance _ (get_or_in [] (found figure s) i (listed i h)))
 
     different : (i j : ℕ) → i < j → j < row_count figure rows → row_at n rows i ≢ row_at n rows j
-    different i j h k e = ordered_get_d [] (demands.once figure patch memory list allowance) i j h (listed j k) (sym (row i (omega arith)) ∙ e ∙ row j k)
+    different i j h k e = ordered_get_or [] (demands.once figure patch memory list allowance) i j h (listed j k) (sym (row i (omega arith)) ∙ e ∙ row j k)

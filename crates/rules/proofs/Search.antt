@@ -17,7 +17,7 @@ use Rattle.rules.specs.Tries.{Try, level, plan_of, tries_of}
 use Rattle.rules.specs.Partials.{partials, partials_of}
 use Rattle.rules.specs.Answer.{rows_of, all_rows}
 use Rattle.rules.proofs.Lawful.{Arranged, start, Lawful, Faithful}
-use Rattle.laws.proofs.Lists.{split, any_out, get_d_out, weaken_ordered}
+use Rattle.laws.proofs.Lists.{split, any_out, get_or_out, weaken_ordered}
 use Rattle.rules.proofs.Order.{earlier_lesser, level_ordered}
 use Rattle.rules.proofs.Places.{place_listed, listed_place}
 use Rattle.rules.proofs.Breadth.{connected_arranged}
@@ -35,7 +35,7 @@ tries_cases F P Q empty full = elim (split (any null (sets_of F P))) [ inl e ↦
 no_place : (F : Figure) (P : Patch) → Drawn F.graph → any null (sets_of F P) ≡ true → (row : List ℕ) → Place F P row → ⊥
 no_place F P D e row p =
     let x = any_out null (sets_of F P) e in
-    let i = get_d_out [] x.1 in
+    let i = get_or_out [] x.1 in
     empty x.0 x.2 (rw (sym i.2) at (sets_hold F P D row p i.0 (rw (sets_length F P) at i.1)))
   where
     empty : {v : ℕ} (s : List ℕ) → null s ≡ true → Memᴰ v s → ⊥

@@ -13,7 +13,7 @@ use Rattle.rules.specs.Candidates.{before, parents, ancestors, order_of}
 use Rattle.rules.specs.Tries.{Plan, plan_of}
 use Rattle.rules.specs.Place.{Figure, Patch, Placed, placed}
 use Rattle.rules.proofs.Lawful.{Arranged, Grown, start, more, Lawful}
-use Rattle.laws.proofs.Lists.{keep_out, get_d_in, take_out, ordered_get_d}
+use Rattle.laws.proofs.Lists.{keep_out, get_or_in, take_out, ordered_get_or}
 use Rattle.rules.proofs.Placements.{placed_cases, latest, still}
 use Rattle.rules.proofs.Ancestors.{before_out, ancestors_own, ancestors_closed}
 
@@ -39,7 +39,7 @@ module _ (S : Plan) (o : List ℕ) (next-is : (M : Placed) → S.next M ≡ get_
     pub order_lawful : Lawful S
     unfolding parents
     order_lawful = record {
-      inside = λ {M} g lt. rw next-is (a.inside _ (get_d_in 0 o (length M) (rw a.whole lt)));
+      inside = λ {M} g lt. rw next-is (a.inside _ (get_or_in 0 o (length M) (rw a.whole lt)));
       fresh = λ {M} g lt. not_placed g lt (placed M (S.next M)) refl;
       ready = ready_at;
       own = λ u h. rw ancestors-are (ancestors_own S.figure o in_order u (a.covers u h));
@@ -47,7 +47,7 @@ module _ (S : Plan) (o : List ℕ) (next-is : (M : Placed) → S.next M ≡ get_
     }
       where
         not_placed : {M : Placed} → Grown S M → length M < S.figure.graph.size → (b : Bool) → placed M (S.next M) ≡ b → b ≡ false
-        not_placed {M} g lt true e = let x = placed_out g (S.next M) e in absurd (ordered_get_d 0 a.once x.0 (length M) x.1 (rw a.whole lt) (sym x.2 ∙ next-is M))
+        not_placed {M} g lt true e = let x = placed_out g (S.next M) e in absurd (ordered_get_or 0 a.once x.0 (length M) x.1 (rw a.whole lt) (sym x.2 ∙ next-is M))
         not_placed g lt false e = refl
 
         ready_at : {M : Placed} → Grown S M → length M < S.figure.graph.size → (p : ℕ) → Memᴰ p (S.parents (S.next M)) → placed M p ≡ true

@@ -8,7 +8,7 @@ use lib.ListN.{length, get_or, take}
 use lib.Seq.{take-suc}
 use lib.Pow.{shr-shr, high}
 use Rattle.laws.specs.Lists.{upto}
-use Rattle.laws.proofs.Lists.{length_map_upto, get_d_in, get_d_first, map_next}
+use Rattle.laws.proofs.Lists.{length_map_upto, get_or_in, get_or_first, map_next}
 use Rattle.rules.specs.Sheet.{Line, bits, kind_bits, line_bits}
 use Rattle.rules.specs.Calls.{lines_of}
 use Rattle.rules.proofs.Fields.{bits_below}
@@ -80,4 +80,4 @@ pub line_among : (ls : List ℕ) (j : ℕ) → j < length ls / 3 → Memᴰ (lin
 line_among ls j h =
     let g = line_in ls in
     let m = length ls / 3 in
-    rw (lines_by ls, sym (get_d_first g (g 0) m j h)) (get_d_in (g 0) (map g (upto m 0)) j (rw (length_map_upto g m 0) h))
+    rw (lines_by ls, sym (get_or_first g (g 0) m j h)) (get_or_in (g 0) (map g (upto m 0)) j (rw (length_map_upto g m 0) h))

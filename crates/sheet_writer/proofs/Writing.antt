@@ -11,7 +11,7 @@ use borrow.Author.Tests.{le-leb, lt-leb, eq-eqb, ne_eqb}
 use lib.Dec.{eqb, leb}
 use lib.ListN.{length, get_or, drop}
 use Rattle.laws.specs.Lists.{all}
-use Rattle.laws.proofs.Lists.{map_upto, length_map_upto, get_d_in}
+use Rattle.laws.proofs.Lists.{map_upto, length_map_upto, get_or_in}
 use Rattle.rules.specs.Sheet.{Sheet, word, bits, kind_bits, line_bits, layout, packed, bit_length, byte_length, written}
 use Rattle.rules.specs.Checks.{Verdict, no_line, lineless, Check, verdict, patch_limits, counted, line_checks}
 use Rattle.rules.specs.Calls.{over, lines_of, sheet_of, writer_checks, writer_refusals, WriterHanded, writer}
@@ -108,7 +108,7 @@ module _ (ks ls bytes : List ℕ) where
           ⊎_elim (λ t. t.0) (λ t. absurd (omega (arith, from_11 {ns = writer_refusals} refl t.0, ap (λ v. v.number) roomed, z))) (writer_either ks ls bytes)
 
       pub kinds_fit : KindsFit ks
-      kinds_fit i h = handed.sheet.kinds (get_or ks i 0) (get_d_in 0 ks i h)
+      kinds_fit i h = handed.sheet.kinds (get_or ks i 0) (get_or_in 0 ks i h)
 
       pub lines_fit : LinesFit ls
       lines_fit j h = let t = handed.sheet.drawn.fit (line_in ls j) (line_among ls j h) in omega (arith, t, handed.sheet.vertices)

@@ -1,17 +1,22 @@
 // What the programs read, into lent bytes.
 #![tactic(auto)]
 
+ghost use Rattle.std.specs.Prelude.{take};
+ghost use Rattle.std.specs.Io.KnownBytes.{Consumes};
 ghost use Rattle.streams.specs.Counts.{IsPrefixLen};
 
 use std::io::Read;
 
-// Reads until `bytes` is full or the input ends; how many bytes it put at their start. A read that fails counts as the end.
+// Reads until `bytes` is full, the input ends or a read fails; how many bytes it put at their start, and they are what the input gave.
 pub fn read_full<R: Read>(input: &mut R, bytes: &mut [u8]) -> usize
-    ensures { IsPrefixLen result bytes.new }
+    ensures within { IsPrefixLen result bytes.new }
+    ensures given { Consumes (R.remaining input.old) (R.remaining input.new) (take result bytes.new) }
 {
     let mut done = 0;
     while done < bytes.len() {
-        let n = input.read(&mut bytes[done..]).unwrap_or(0);
+        let Ok(n) = input.read(&mut bytes[done..]) else {
+            break;
+        };
         if n == 0 {
             break;
         }

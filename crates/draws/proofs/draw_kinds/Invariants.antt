@@ -1,3 +1,4 @@
+-- `draw_kinds` is safe and ends. The invariant: the list keeps its length, and the index is within it; the kinds left fall. Assumes nothing.
 use Prim.Native.Nat.{◌≤◌, ◌-◌}
 use mathlib.Core.Path.{◌≡◌}
 use lib.ListN.{length}

@@ -1,3 +1,4 @@
+-- `draw_lines` meets its contract. The invariant: the list keeps its length, and the lines drawn are within it; what is left of its length falls. Assumes nothing.
 use Prim.Native.Nat.{◌≤◌, ◌-◌, ◌/◌}
 use mathlib.Core.Path.{◌≡◌}
 use lib.ListN.{length}

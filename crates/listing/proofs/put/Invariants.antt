@@ -1,4 +1,4 @@
--- Each store is within the bytes.
+-- `put` meets its contract. The invariant: each store is within the bytes; the bytes left to put fall. Assumes nothing.
 use Rattle.std.proofs.Common.{length, ◌-◌, ◌≤◌}
 use Rattle.listing.proofs.put.Given as goal
 

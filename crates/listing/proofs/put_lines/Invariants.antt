@@ -1,3 +1,4 @@
+-- `put_lines` meets its contract. The invariant: the place is within the bytes; the lines left fall. Assumes nothing.
 use Rattle.std.proofs.Common.{length, ◌-◌, ◌/◌, ◌≤◌}
 use Rattle.listing.proofs.put_lines.Given as goal
 

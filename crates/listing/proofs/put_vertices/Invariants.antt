@@ -1,3 +1,4 @@
+-- `put_vertices` meets its contract. The invariant: the place is within the bytes, and a sheet has at most 512 vertices; those left fall. Assumes nothing.
 use Rattle.std.proofs.Common.{length, ◌-◌, ◌≤◌}
 use Rattle.listing.proofs.put_vertices.Given as goal
 

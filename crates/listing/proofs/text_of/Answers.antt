@@ -1,4 +1,4 @@
--- Number and line are those of the sheet's check, since `read` has room for any sheet.
+-- Number and line are those of the sheet's check, since `read` has room for any sheet. Assumes nothing.
 use mathlib.Core.Path.{sym}
 use lib.Seq.{length-take-le}
 use Rattle.std.proofs.Common.{rules, arith}

@@ -1,3 +1,4 @@
+-- `random_graphs::add_cases` is safe and ends. The invariant: the sums keep their number, and the index is within the count; the cases left fall. Assumes nothing.
 use Rattle.std.proofs.Common.{◌≡◌, ◌-◌, ◌≤◌, length}
 use Rattle.random_graphs.proofs.add_cases.Given as goal
 

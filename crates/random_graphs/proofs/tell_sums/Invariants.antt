@@ -1,3 +1,4 @@
+-- `random_graphs::tell_sums` is safe and ends: index and label are within the lists. Assumes nothing.
 use Rattle.std.proofs.Common.{◌-◌, ◌≤◌, length}
 use Rattle.random_graphs.proofs.tell_sums.Given as goal
 

@@ -1,4 +1,4 @@
--- `check_before`: the first of the checks that fails, or none.
+-- `check_before`: the first of the checks that fails, or none. Assumes nothing.
 use mathlib.Core.Path.{◌∙◌}
 use Rattle.sheet.proofs.Verdicts.{passes}
 use Rattle.row_check.proofs.Before.{by_figure, by_patch, by_length, by_none}

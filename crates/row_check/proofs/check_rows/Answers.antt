@@ -1,4 +1,4 @@
--- `check_rows`: refused by the checks before the rows', or what the walk over the rows says.
+-- `check_rows`: refused by the checks before the rows', or what the walk over the rows says. Assumes nothing.
 use native.Mathlib.Nat.{le_refl}
 use mathlib.Core.Path.{refl, sym, ◌∙◌}
 use Rattle.rules.proofs.Accepted.{patch_size}

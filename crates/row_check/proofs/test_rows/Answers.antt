@@ -1,4 +1,4 @@
--- `test_rows`: the arrays hold the figure, and those that are read its lines.
+-- `test_rows`: the arrays hold the figure, and those that are read its lines. Assumes nothing.
 use Rattle.rules.specs.Calls.{figure_of}
 use Rattle.row_check.proofs.Loaded.{against, counted_rows}
 use Rattle.row_check.proofs.test_rows.Goals as goal

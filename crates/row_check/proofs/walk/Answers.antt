@@ -1,4 +1,4 @@
--- `walk`: the row lies in the list, and what is said of it holds whatever figure and patch the arrays hold.
+-- `walk`: the row lies in the list, and what is said of it holds whatever figure and patch the arrays hold. Assumes nothing.
 use Rattle.std.proofs.Common.{length}
 use borrow.Author.Rules.{rules}
 use Rattle.row_check.proofs.Walks.{row_fits, row_says, row_against, good_more}

@@ -1,3 +1,4 @@
+-- `walk` meets its contract. The invariant: the rows passed are good, and their marks are set. Assumes nothing.
 use Prim.Native.Nat.{◌≤◌, ◌-◌}
 use Rattle.rules.specs.Place.{Figure, Patch}
 use Rattle.rules.specs.RowCheck.{Good}

@@ -1,3 +1,4 @@
+-- `read` meets its contract: each return is what `reader` gives where that check is the first to fail. Assumes nothing.
 use mathlib.Core.Path.{refl}
 use native.Mathlib.Omega.{arith}
 use Rattle.sheet.specs.Check.{verdict_of}

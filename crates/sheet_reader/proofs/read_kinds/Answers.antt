@@ -1,3 +1,4 @@
+-- `read_kinds` meets its contract: the goals that the check leaves open. Assumes nothing.
 use Prim.Native.Nat.{ℕ, ◌+◌, ◌*◌}
 use mathlib.Core.List.{map, ◌++◌}
 use mathlib.Core.Path.{◌≡◌, ◌∙◌, ap}

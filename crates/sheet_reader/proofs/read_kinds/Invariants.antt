@@ -1,3 +1,4 @@
+-- `read_kinds` meets its contract. The invariant: the first i kinds are written, and the rest is as it was. Assumes nothing.
 use Prim.Native.Nat.{◌≤◌, ◌-◌, ◌+◌, ◌*◌}
 use mathlib.Core.List.{map, ◌++◌}
 use mathlib.Core.Path.{◌≡◌}

@@ -1,3 +1,4 @@
+-- `read_lines` meets its contract. The invariant: the first j lines are written, three numbers each, and the rest is as it was. Assumes nothing.
 use Prim.Native.Nat.{◌≤◌, ◌-◌, ◌+◌, ◌*◌}
 use mathlib.Core.List.{map, ◌++◌}
 use mathlib.Core.Path.{◌≡◌}

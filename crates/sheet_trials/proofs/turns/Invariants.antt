@@ -1,3 +1,4 @@
+-- `sheet_trials::turns` meets its contract. The invariant: the log keeps its length. Assumes nothing.
 use Rattle.std.proofs.Common.{◌-◌, ◌≤◌}
 use Rattle.sheet_trials.proofs.turns.Given as goal
 

@@ -1,3 +1,4 @@
+-- `check_line_list` meets its contract: the goals that the check leaves open. Assumes nothing.
 use Prim.Native.Nat.{◌/◌}
 use mathlib.Core.Option.{none}
 use mathlib.Core.Path.{refl, sym, ◌∙◌, ap}

@@ -1,3 +1,4 @@
+-- `check_lists` meets its contract: the first test to fail gives the number. Assumes nothing.
 use mathlib.Core.Path.{sym, ◌∙◌}
 use native.Mathlib.Omega.{arith}
 use Rattle.sheet_writer.proofs.Writing.{lists_threes, lists_none, lists_vertices, lists_lines, lists_kinds, lists_drawn}

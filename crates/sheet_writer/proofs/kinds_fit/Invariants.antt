@@ -1,3 +1,4 @@
+-- `kinds_fit` meets its contract. The invariant: the test of all kinds is that of the kinds from the i-th on. Assumes nothing.
 use Prim.Native.Nat.{◌≤◌, ◌-◌}
 use mathlib.Core.Path.{◌≡◌}
 use lib.ListN.{length, drop}

@@ -1,3 +1,4 @@
+-- `write` meets its contract: each return is what `writer` gives where that check is the first to fail. Assumes nothing.
 use Prim.Native.Nat.{◌/◌, ◌+◌}
 use mathlib.Core.Path.{refl, ap}
 use native.Mathlib.Omega.{arith}

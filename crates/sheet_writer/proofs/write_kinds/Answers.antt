@@ -1,3 +1,4 @@
+-- `write_kinds` meets its contract: the goals that the check leaves open. Assumes nothing.
 use Prim.Native.Nat.{◌≤◌}
 use mathlib.Core.Path.{◌≡◌}
 use native.Mathlib.Omega.{arith}

@@ -1,3 +1,4 @@
+-- `write_kinds` meets its contract. The invariant: the bits of the first i kinds were put down. Assumes nothing.
 use Prim.Native.Nat.{◌≤◌, ◌<◌, ◌-◌}
 use lib.ListN.{length, take}
 use Rattle.rules.specs.Sheet.{kind_bits}

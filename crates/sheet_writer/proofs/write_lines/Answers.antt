@@ -1,3 +1,4 @@
+-- `write_lines` meets its contract: the goals that the check leaves open. Assumes nothing.
 use Prim.Native.Nat.{◌/◌}
 use mathlib.Core.List.{map}
 use mathlib.Core.Path.{◌≡◌, refl, sym}

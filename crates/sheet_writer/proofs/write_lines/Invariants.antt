@@ -1,3 +1,4 @@
+-- `write_lines` meets its contract. The invariant: the bits of the first j lines were put down. Assumes nothing.
 use Prim.Native.Nat.{◌≤◌, ◌<◌, ◌-◌, ◌/◌}
 use mathlib.Core.List.{map}
 use mathlib.Core.Path.{◌≡◌}

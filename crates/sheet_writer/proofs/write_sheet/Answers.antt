@@ -1,3 +1,4 @@
+-- `write_sheet` meets its contract: each part has room after the parts before it, and the filled bytes are those of the layout. Assumes nothing.
 use Prim.Native.Nat.{◌*◌, ◌-◌, ◌/◌, ◌%◌}
 use native.Mathlib.Omega.{arith}
 use lib.Pow.{pow_pos}

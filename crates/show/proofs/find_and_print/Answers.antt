@@ -1,4 +1,4 @@
--- The number is that of an allowed call of `find`.
+-- The number is that of an allowed call of `find`. Assumes nothing.
 use Rattle.show.proofs.Numbers.{known}
 use Rattle.show.proofs.find_and_print.Goals as goal
 

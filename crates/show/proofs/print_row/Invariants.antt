@@ -1,3 +1,4 @@
+-- `print_row` is safe and ends. The invariant: the index is within the row; the entries left fall. Assumes nothing.
 use lib.ListN.{length}
 use Prim.Native.Nat.{◌≤◌, ◌-◌}
 use Rattle.show.proofs.print_row.Given as goal

@@ -1,3 +1,4 @@
+-- `print_rows` meets its contract: where each row begins, and that it lies within the list. Assumes nothing.
 use Prim.Native.Nat.{◌*◌, ◌-◌, ◌≤◌}
 use mathlib.Core.Path.{◌≡◌}
 use lib.ListN.{length}

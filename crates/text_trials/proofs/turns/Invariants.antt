@@ -1,3 +1,4 @@
+-- `turns` is safe and ends. The invariant: the index is within the count; the turns left fall. Assumes nothing.
 use Rattle.std.proofs.Common.{◌-◌, ◌≤◌}
 use Rattle.text_trials.proofs.turns.Given as goal
 

@@ -1,3 +1,4 @@
+-- `trials::all` is safe and ends: the index is within the list. Assumes nothing.
 use Prim.Native.Nat.{◌≤◌, ◌-◌}
 use lib.ListN.{length}
 use Rattle.trials.proofs.all.Given as goal

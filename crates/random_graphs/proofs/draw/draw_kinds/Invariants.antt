@@ -1,3 +1,4 @@
+-- `random_graphs::draw::draw_kinds` is safe and ends. The invariant: the index is within the 12 kinds; those left fall. Assumes nothing.
 use Rattle.std.proofs.Common.{◌-◌, ◌≤◌}
 use Rattle.random_graphs.proofs.draw.draw_kinds.Given as goal
 

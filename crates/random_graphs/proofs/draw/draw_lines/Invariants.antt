@@ -1,3 +1,4 @@
+-- `random_graphs::draw::draw_lines` is safe and ends. The invariant: the pairs passed are at most 144; those left fall. Assumes nothing.
 use Rattle.std.proofs.Common.{◌-◌, ◌≤◌}
 use Rattle.random_graphs.proofs.draw.draw_lines.Given as goal
 

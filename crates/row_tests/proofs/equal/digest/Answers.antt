@@ -1,3 +1,4 @@
+-- `digest` meets its contract: the goals that the check leaves open. Assumes nothing.
 use native.Mathlib.Omega.{arith}
 use native.Mathlib.Nat.{mod-lt}
 use Rattle.row_tests.proofs.Marks.{digest_more, digest_end}

@@ -1,3 +1,4 @@
+-- `digest` meets its contract. The invariant: the digest of what is left, gone on from d, is the row's. Assumes nothing.
 use Prim.Native.Nat.{◌≤◌, ◌<◌, ◌-◌}
 use mathlib.Core.Path.{◌≡◌}
 use lib.ListN.{length, drop}

@@ -1,3 +1,4 @@
+-- `is_marked` meets its contract: the goals that the check leaves open. Assumes nothing.
 use mathlib.Core.Path.{refl}
 use Rattle.row_tests.specs.Marks.{is_marked}
 use Rattle.laws.specs.Masks.{in_mask}

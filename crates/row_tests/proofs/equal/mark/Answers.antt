@@ -1,3 +1,4 @@
+-- `mark` meets its contract: a bit shifted by less than 32 is not cut. Assumes nothing.
 use Prim.Native.Nat.{◌/◌, ◌%◌}
 use lib.ListN.{get_or, set}
 use lib.Bits.{bit_or}

@@ -1,4 +1,4 @@
--- `repeats`: where one of the row's marks is not set there is no earlier row that it equals; else the rows are compared.
+-- `repeats`: where one of the row's marks is not set there is no earlier row that it equals; else the rows are compared. Assumes nothing.
 use Rattle.std.proofs.Common.{ℕ, ◌+◌, ◌/◌, ◌%◌, ◌<◌, ◌≡◌, List, ap, sym, ◌∙◌}
 use mathlib.Core.Bool.{false≢true}
 use Rattle.rules.specs.RowCheck.{row_at}

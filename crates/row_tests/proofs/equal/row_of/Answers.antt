@@ -1,3 +1,4 @@
+-- `row_of` meets its contract: the goals that the check leaves open. Assumes nothing.
 use Rattle.row_tests.proofs.Rows.{row_part}
 use Rattle.row_tests.proofs.equal.row_of.Goals as goal
 

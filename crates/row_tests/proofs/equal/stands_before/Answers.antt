@@ -1,3 +1,4 @@
+-- `stands_before` meets its contract: the goals that the check leaves open. Assumes nothing.
 use mathlib.Core.Path.{ap, sym, ◌∙◌}
 use lib.ListN.{length}
 use Rattle.row_tests.proofs.Rows.{earlier_fits, row_long}

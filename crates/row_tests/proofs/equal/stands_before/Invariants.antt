@@ -1,3 +1,4 @@
+-- `stands_before` meets its contract. The invariant: none of the rows passed equals row i. Assumes nothing.
 use mathlib.Core.Path.{◌≡◌}
 use Prim.Native.Nat.{ℕ, ◌≤◌, ◌<◌, ◌-◌}
 use Rattle.rules.specs.RowCheck.{row_at}

@@ -1,3 +1,4 @@
+-- `apart` meets its contract: the goals that the check leaves open. Assumes nothing.
 use Rattle.row_tests.proofs.Used.{none_used}
 use borrow.Author.Rules.{rules}
 use Rattle.row_tests.proofs.place.apart.Goals as goal

@@ -1,3 +1,4 @@
+-- `apart` meets its contract. The invariant: just the entries passed are marked, and no two of them are the same. Assumes nothing.
 use Rattle.row_tests.proofs.Used.{Used}
 use Prim.Native.Nat.{◌≤◌, ◌-◌}
 use lib.ListN.{length}

@@ -1,3 +1,4 @@
+-- `ends_of` meets its contract: the goals that the check leaves open. Assumes nothing.
 use Rattle.row_tests.proofs.Ends.{all_read}
 use Rattle.row_tests.proofs.place.ends_of.Goals as goal
 

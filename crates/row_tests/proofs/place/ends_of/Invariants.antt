@@ -1,3 +1,4 @@
+-- `ends_of` meets its contract. The invariant: the arrays hold the ends of the lines passed. Assumes nothing.
 use Rattle.row_tests.proofs.Ends.{EndsRead}
 use Prim.Native.Nat.{◌≤◌, ◌-◌}
 use Rattle.row_tests.proofs.place.ends_of.Given as goal

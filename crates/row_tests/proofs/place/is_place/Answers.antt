@@ -1,4 +1,4 @@
--- `is_place`: a row is a place exactly where the three tests pass.
+-- `is_place`: a row is a place exactly where the three tests pass. Assumes nothing.
 use mathlib.Core.Path.{refl}
 use Rattle.patch.proofs.Held.{held_linked}
 use Rattle.row_tests.proofs.Places.{size_small, ends_below, fit_within, place_fits, place_lines, tests_place}

@@ -1,3 +1,4 @@
+-- `kinds_fit` meets its contract. The invariant: the entries passed fit. Assumes nothing.
 use mathlib.Core.Path.{◌≡◌}
 use Prim.Native.Nat.{ℕ, ◌≤◌, ◌<◌, ◌-◌}
 use lib.ListN.{length, get_or}

@@ -1,3 +1,4 @@
+-- `lines_kept` meets its contract. The invariant: the lines passed lie on patch lines. Assumes nothing.
 use Prim.Native.Nat.{◌≤◌, ◌-◌}
 use Rattle.row_tests.specs.Against.{LinesKept}
 use Rattle.row_tests.proofs.place.lines_kept.Given as goal

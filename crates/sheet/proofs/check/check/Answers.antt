@@ -1,3 +1,4 @@
+-- `check::check` meets its contract: what the checks before the lines answer stands, and after 0 the lines say. Assumes nothing.
 use mathlib.Core.Option.{none}
 use mathlib.Core.Path.{sym, ◌∙◌, ap, ap₂}
 use Rattle.rules.specs.Checks.{verdict, line_checks}

@@ -1,3 +1,4 @@
+-- `check::check_head` meets its contract: the first test to fail gives the number, and the filling is one field. Assumes nothing.
 use mathlib.Core.Path.{sym, ◌∙◌}
 use native.Mathlib.Omega.{arith}
 use lib.Arith.{le-zero}

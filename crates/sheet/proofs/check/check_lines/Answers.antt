@@ -1,3 +1,4 @@
+-- `check::check_lines` meets its contract: the goals that the check leaves open. Assumes nothing.
 use Prim.Native.Nat.{ℕ, ◌-◌, ◌+◌, ◌*◌}
 use mathlib.Core.Path.{◌≡◌, sym, ◌∙◌, ap}
 use native.Mathlib.Omega.{arith}

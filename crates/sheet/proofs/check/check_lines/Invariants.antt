@@ -1,3 +1,4 @@
+-- `check::check_lines` meets its contract. The invariant: the verdict on all the lines is that on the lines from the i-th on, after the line before. Assumes nothing.
 use Prim.Native.Nat.{◌≤◌, ◌-◌, ◌+◌, ◌*◌}
 use mathlib.Core.Option.{some, none}
 use mathlib.Core.List.{map}

@@ -1,3 +1,4 @@
+-- `check::line_number` meets its contract: the first of the two tests to fail gives the number. Assumes nothing.
 use mathlib.Core.Path.{sym, ◌∙◌}
 use Rattle.sheet.specs.Fields.{line_of}
 use Rattle.sheet.proofs.Verdicts.{line_unfit, line_late, line_good}

@@ -1,3 +1,4 @@
+-- `fields::counts` meets its contract: a field of 10 or 12 bits fits 16. Assumes nothing.
 use native.Mathlib.Omega.{arith}
 use Rattle.sheet.proofs.Words.{field_lt}
 use Rattle.sheet.proofs.fields.counts.Goals as goal

@@ -1,3 +1,4 @@
+-- `fields::field` meets its contract: the part of four bytes that a shift and a mask take is the field, by the one law of fields (`field_four`). Assumes nothing.
 use Prim.Native.Nat.{◌^◌, ◌/◌, ◌%◌, ◌-◌, ◌+◌}
 use mathlib.Core.Path.{sym, ◌∙◌, ap}
 use native.Mathlib.Omega.{arith}

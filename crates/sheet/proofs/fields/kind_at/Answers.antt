@@ -1,3 +1,4 @@
+-- `fields::kind_at` meets its contract: a field of 6 bits fits 16. Assumes nothing.
 use Prim.Native.Nat.{◌+◌, ◌*◌}
 use native.Mathlib.Omega.{arith}
 use Rattle.sheet.proofs.Words.{field_lt}

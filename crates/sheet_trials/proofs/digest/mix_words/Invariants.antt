@@ -1,3 +1,4 @@
+-- `sheet_trials::digest::mix_words` meets its contract. The invariant: the log keeps its length, and the index is within the list. Assumes nothing.
 use Rattle.std.proofs.Common.{length, ◌-◌, ◌≤◌}
 use Rattle.sheet_trials.proofs.digest.mix_words.Given as goal
 

@@ -1,3 +1,4 @@
+-- `sheet_trials::digest::print_part` meets its contract. The invariant: the number is at most 40. Assumes nothing.
 use Rattle.std.proofs.Common.{◌-◌, ◌≤◌}
 use Rattle.sheet_trials.proofs.digest.print_part.Given as goal
 

@@ -1,3 +1,4 @@
+-- `sheet_trials::draw::draw_bytes` meets its contract. The invariant: the index is within the list, which keeps its length. Assumes nothing.
 use Rattle.std.proofs.Common.{length, ◌-◌, ◌≤◌}
 use Rattle.sheet_trials.proofs.draw.draw_bytes.Given as goal
 

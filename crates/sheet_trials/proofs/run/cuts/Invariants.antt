@@ -1,3 +1,4 @@
+-- `sheet_trials::run::cuts` meets its contract. The invariant: the log keeps its length, and the length is at most a step past the end. Assumes nothing.
 use Rattle.std.proofs.Common.{length, ◌+◌, ◌-◌, ◌≤◌}
 use Rattle.sheet_trials.proofs.run.cuts.Given as goal
 

@@ -1,3 +1,4 @@
+-- `sheet_trials::run::flips` meets its contract. The invariant: bytes and log keep their lengths, and the bit is at most a step past the end. Assumes nothing.
 use Rattle.std.proofs.Common.{◌+◌, ◌-◌, ◌≤◌}
 use Rattle.sheet_trials.proofs.run.flips.Given as goal
 

@@ -1,3 +1,4 @@
+-- `sheet_trials::run::lends` meets its contract. The invariant: the log keeps its length, and the length lent is at most 40. Assumes nothing.
 use Rattle.std.proofs.Common.{◌-◌, ◌≤◌}
 use Rattle.sheet_trials.proofs.run.lends.Given as goal
 

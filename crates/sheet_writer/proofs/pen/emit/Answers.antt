@@ -1,3 +1,4 @@
+-- `pen::emit` meets its contract: the byte that goes out is the next eight bits, and the pen holds the rest. Assumes nothing.
 use Prim.Native.Nat.{◌+◌, ◌-◌}
 use mathlib.Core.Path.{◌≡◌}
 use native.Mathlib.Omega.{arith}

@@ -1,3 +1,4 @@
+-- `pen::put` meets its contract: the goals that the check leaves open. Assumes nothing.
 use Prim.Native.Nat.{◌+◌}
 use mathlib.Core.Path.{ap}
 use native.Mathlib.Omega.{arith}

@@ -1,3 +1,4 @@
+-- `pen::put` meets its contract. The invariant: whole bytes went out since the field was taken up, and nothing else changed. Assumes nothing.
 use Prim.Native.Nat.{◌≤◌}
 use mathlib.Core.List.{[]}
 use Rattle.sheet_writer.specs.Pen.{Added}

@@ -1,3 +1,4 @@
+-- `lists` meets its contract: the counts stay within the lists, and no more lines are counted than bytes were passed. Assumes nothing.
 use Prim.Native.Nat.{◌≤◌, ◌-◌}
 use lib.ListN.{length}
 use Rattle.text.proofs.lists.lists.Given as goal

@@ -1,3 +1,4 @@
+-- `next_line` meets its contract. The invariant: the index is from where it began to the text's end; the bytes left fall. Assumes nothing.
 use Prim.Native.Nat.{◌≤◌, ◌-◌}
 use lib.ListN.{length}
 use Rattle.text.proofs.lists.next_line.Given as goal

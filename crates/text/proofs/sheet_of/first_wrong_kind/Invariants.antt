@@ -1,3 +1,4 @@
+-- `first_wrong_kind` meets its contract. The invariant: the index is within the kinds; those left fall. Assumes nothing.
 use Prim.Native.Nat.{◌≤◌, ◌-◌}
 use lib.ListN.{length}
 use Rattle.text.proofs.sheet_of.first_wrong_kind.Given as goal

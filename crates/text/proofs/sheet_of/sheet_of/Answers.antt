@@ -1,4 +1,4 @@
--- What is made of the lists by the writer is what a text's sheet is to be.
+-- What is made of the lists by the writer is what a text's sheet is to be. Assumes nothing.
 use Rattle.text.proofs.Sheets.{made}
 use Rattle.text.proofs.sheet_of.sheet_of.Goals as goal
 

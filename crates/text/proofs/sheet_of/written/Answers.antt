@@ -1,4 +1,4 @@
--- Number, count and bytes are what the writer gave.
+-- Number, count and bytes are what the writer gave. Assumes nothing.
 use mathlib.Core.Path.{ap}
 use Rattle.std.proofs.Common.{arith}
 use Rattle.text.proofs.Sheets.{counted}

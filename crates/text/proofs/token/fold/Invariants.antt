@@ -1,3 +1,4 @@
+-- `fold` is safe and ends: a value that has another digit put after it is below 2 ^ 58. Assumes nothing.
 use Prim.Native.Nat.{◌≤◌, ◌-◌}
 use lib.ListN.{length}
 use Rattle.text.proofs.token.fold.Given as goal

@@ -1,3 +1,4 @@
+-- `skip` is safe and ends. The invariant: the index only grows; the bytes left fall. Assumes nothing.
 use Prim.Native.Nat.{◌≤◌, ◌-◌}
 use lib.ListN.{length}
 use Rattle.text.proofs.token.skip.Given as goal

@@ -1,3 +1,4 @@
+-- `damages` is safe and ends: the text keeps its length, which is not 0. Assumes nothing.
 use Rattle.std.proofs.Common.{length, ◌-◌, ◌<◌, ◌≤◌}
 use Rattle.text_trials.proofs.trial.damages.Given as goal
 

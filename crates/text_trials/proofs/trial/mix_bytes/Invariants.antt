@@ -1,3 +1,4 @@
+-- `mix_bytes` is safe and ends. The invariant: the index is within the bytes; those left fall. Assumes nothing.
 use Rattle.std.proofs.Common.{length, ◌-◌, ◌≤◌}
 use Rattle.text_trials.proofs.trial.mix_bytes.Given as goal
 
