@@ -1,5 +1,6 @@
 /* Gelquorist from C: the search for the places of a figure in a patch, the check of rows that come
- * from elsewhere, and the reader and the writer of sheets. Link libexports.a, which `rt lib` writes to out/ in crates/exports (x86-64).
+ * from elsewhere, and the reader and the writer of sheets. Link libexports.a, which `rt lib`, called
+ * in crates/exports, writes to out/ there (x86-64).
  *
  * Every promise below is proved of the library, for all inputs; none of the calls has a
  * precondition beyond what C itself asks: each pointer is valid for its length (any pointer not
