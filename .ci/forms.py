@@ -9,12 +9,12 @@ import sys
 
 
 def extent(lines, name, antt):
-    """The item's first line and the one after its last: an .rt item ends with a brace at the margin or on its first line, an .antt one with an empty line."""
-    start = rf"(abbrev |unfoldable )*(pub )?{re.escape(name)} :" if antt else rf"(pub )?(fn|struct|enum) {re.escape(name)}\b"
+    """The item's first line and the one after its last: an .rt item, a method too, ends with a brace under its first column or on its first line, an .antt one with an empty line."""
+    start = rf"(abbrev |unfoldable )*(pub )?{re.escape(name)} :" if antt else rf"( *)(pub )?(fn|struct|enum) {re.escape(name)}\b"
     for i, line in enumerate(lines):
-        if re.match(start, line):
+        if found := re.match(start, line):
             for j in range(i, len(lines)):
-                if lines[j] == "" if antt else lines[j].startswith("}") or (j == i and line.endswith(";")):
+                if lines[j] == "" if antt else lines[j].startswith(found.group(1) + "}") or (j == i and line.endswith(";")):
                     return i, j + 1
             return i, len(lines)
     return None

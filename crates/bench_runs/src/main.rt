@@ -3,7 +3,8 @@
 
 ghost use Rattle.std.specs.Prelude.{◌≤◌};
 
-use show::{print, print_rows};
+use matcher::Lists;
+use show::print_rows;
 use trials::{Limits, Ran, run, run_lists};
 
 // Ample room and this allowance.
@@ -16,78 +17,123 @@ fn allowed(allowance: u32) -> Limits {
 }
 
 // The letter, number, rows and tries on one line; the rows, of n entries each; whether memory and list are as promised. A write that fails is let go.
-fn tell(rt: &impl Print, letter: u8, ran: Ran, n: usize) {
-    let _ = rt.write_all(&[letter, b' ']);
-    print(rt, ran.number as u64, b' ');
-    print(rt, ran.rows as u64, b' ');
-    print(rt, ran.tries as u64, b'\n');
-    print_rows(rt, &ran.list, ran.rows, n);
-    if ran.kept {
-        let _ = rt.write_all(b"as promised\n");
+fn tell(rt: &impl Print, letter: char, ran: &Ran, n: usize) {
+    let said = ran.said();
+    let _ = println!(rt; "{letter} {} {} {}", said.number, said.rows, said.tries);
+    print_rows(rt, &ran.list, said.rows, n);
+    let _ = rt.println(if ran.kept {
+        "as promised"
     } else {
-        let _ = rt.write_all(b"not as promised\n");
-    }
+        "not as promised"
+    });
+}
+
+// A bench given by lists.
+fn bench(rt: &impl Print, letter: char, figure: Lists<'_>, patch: Lists<'_>, limits: Limits) {
+    let ran = run_lists(&figure, &patch, limits);
+    tell(rt, letter, &ran, figure.kinds.len());
 }
 
 // Benches c, d and e: one figure and patch, under limits.
-fn forked(rt: &impl Print, letter: u8, limits: Limits) {
-    let fl = [1u16, 0, 1];
-    let pl = [1u16, 0, 1, 1, 0, 2];
-    let ran = run_lists(&[1, 2], &fl, &[1, 2, 2], &pl, limits);
-    tell(rt, letter, ran, 2);
+fn forked(rt: &impl Print, letter: char, limits: Limits) {
+    bench(
+        rt,
+        letter,
+        Lists {
+            kinds: &[1, 2],
+            lines: &[1, 0, 1],
+        },
+        Lists {
+            kinds: &[1, 2, 2],
+            lines: &[1, 0, 1, 1, 0, 2],
+        },
+        limits,
+    );
 }
 
 // Bench e, with room for so many rows.
 fn forked_in(rt: &impl Print, room: usize)
     requires { room ≤ 2 }
 {
-    forked(
-        rt,
-        b'e',
-        Limits {
-            memory: 22528,
-            list: 2 * room,
-            allowance: 1000000,
-        },
-    );
+    let limits = Limits {
+        memory: 22528,
+        list: 2 * room,
+        allowance: 1000000,
+    };
+    forked(rt, 'e', limits);
 }
 
 fn mirrored(rt: &impl Print) {
-    let l = [1u16, 0, 1];
-    tell(
-        rt,
-        b'f',
-        run_lists(&[2, 2], &l, &[2, 2], &l, allowed(1000000)),
-        2,
-    );
+    let pair = Lists {
+        kinds: &[2, 2],
+        lines: &[1, 0, 1],
+    };
+    bench(rt, 'f', pair, pair, allowed(1000000));
 }
 
 fn ringed(rt: &impl Print) {
-    let fl = [1u16, 0, 1, 1, 0, 2, 1, 1, 2];
-    let pl = [1u16, 0, 1, 1, 0, 3, 1, 1, 2, 1, 2, 3];
-    let ran = run_lists(&[3, 3, 3], &fl, &[3, 3, 3, 3], &pl, allowed(1000000));
-    tell(rt, b'g', ran, 3);
+    bench(
+        rt,
+        'g',
+        Lists {
+            kinds: &[3, 3, 3],
+            lines: &[1, 0, 1, 1, 0, 2, 1, 1, 2],
+        },
+        Lists {
+            kinds: &[3, 3, 3, 3],
+            lines: &[1, 0, 1, 1, 0, 3, 1, 1, 2, 1, 2, 3],
+        },
+        allowed(1000000),
+    );
 }
 
 fn starred(rt: &impl Print) {
-    let fl = [1u16, 0, 1, 1, 0, 2, 1, 0, 3];
-    let pl = [1u16, 0, 1, 1, 0, 2, 1, 0, 3, 1, 0, 4];
-    let ran = run_lists(&[1, 2, 3, 2], &fl, &[1, 2, 3, 3, 3], &pl, allowed(1000000));
-    tell(rt, b'h', ran, 4);
+    bench(
+        rt,
+        'h',
+        Lists {
+            kinds: &[1, 2, 3, 2],
+            lines: &[1, 0, 1, 1, 0, 2, 1, 0, 3],
+        },
+        Lists {
+            kinds: &[1, 2, 3, 3, 3],
+            lines: &[1, 0, 1, 1, 0, 2, 1, 0, 3, 1, 0, 4],
+        },
+        allowed(1000000),
+    );
 }
 
 fn swapped(rt: &impl Print) {
-    let fl = [1u16, 0, 1, 1, 0, 2, 1, 2, 3];
-    let pl = [1u16, 0, 1, 1, 0, 2, 1, 1, 3];
-    let ran = run_lists(&[1, 2, 2, 4], &fl, &[1, 2, 2, 4], &pl, allowed(1000000));
-    tell(rt, b'i', ran, 4);
+    bench(
+        rt,
+        'i',
+        Lists {
+            kinds: &[1, 2, 2, 4],
+            lines: &[1, 0, 1, 1, 0, 2, 1, 2, 3],
+        },
+        Lists {
+            kinds: &[1, 2, 2, 4],
+            lines: &[1, 0, 1, 1, 0, 2, 1, 1, 3],
+        },
+        allowed(1000000),
+    );
 }
 
 // Bench j: a figure of one vertex.
 fn single(rt: &impl Print, kind: u16, allowance: u32) {
-    let none = [0u16; 0];
-    let ran = run_lists(&[kind], &none, &[5, 5, 5], &none, allowed(allowance));
-    tell(rt, b'j', ran, 1);
+    bench(
+        rt,
+        'j',
+        Lists {
+            kinds: &[kind],
+            lines: &[],
+        },
+        Lists {
+            kinds: &[5, 5, 5],
+            lines: &[],
+        },
+        allowed(allowance),
+    );
 }
 
 // Bench k: a figure of 33 vertices of kind 0 without lines.
@@ -96,35 +142,44 @@ fn too_many(rt: &impl Print) {
     sheet[0] = 0x08;
     sheet[1] = 0x40;
     let ran = run(&sheet, &[0x00, 0x40, 0x00, 0x50], 33, allowed(1000000));
-    tell(rt, b'k', ran, 33);
+    tell(rt, 'k', &ran, 33);
 }
 
 // Bench k: two unjoined vertices.
 fn apart(rt: &impl Print) {
-    let none = [0u16; 0];
-    let ran = run_lists(&[5, 5], &none, &[5, 5, 5], &none, allowed(1000000));
-    tell(rt, b'k', ran, 2);
+    bench(
+        rt,
+        'k',
+        Lists {
+            kinds: &[5, 5],
+            lines: &[],
+        },
+        Lists {
+            kinds: &[5, 5, 5],
+            lines: &[],
+        },
+        allowed(1000000),
+    );
 }
 
 // Bench k: working memory one number too short, for the figure and the patch of c.
 fn short(rt: &impl Print) {
-    forked(
-        rt,
-        b'k',
-        Limits {
-            memory: 22527,
-            list: 4096,
-            allowance: 1000000,
-        },
-    );
+    let limits = Limits {
+        memory: 22527,
+        list: 4096,
+        allowance: 1000000,
+    };
+    forked(rt, 'k', limits);
 }
 
 fn main(rt: HostRuntime) {
-    forked(&rt, b'c', allowed(1000000));
-    forked(&rt, b'd', allowed(2));
-    forked(&rt, b'd', allowed(3));
-    forked_in(&rt, 1);
-    forked_in(&rt, 2);
+    forked(&rt, 'c', allowed(1000000));
+    for allowance in [2, 3] {
+        forked(&rt, 'd', allowed(allowance));
+    }
+    for room in [1, 2] {
+        forked_in(&rt, room);
+    }
     mirrored(&rt);
     ringed(&rt);
     starred(&rt);

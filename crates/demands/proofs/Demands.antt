@@ -14,10 +14,8 @@ use Rattle.rules.specs.Partials.{partials}
 use Rattle.rules.specs.Answer.{all_rows}
 use Rattle.rules.specs.Calls.{over, lines_of, reader, ReaderHanded, writer, WriterHanded, search_checks, search_refusals, Handed, Searched, refused, room_of, search, LineOfTwo, found}
 use Rattle.rules.proofs.Demands as rules
-use Rattle.sheet_reader.specs.Answers.{as_read}
-use Rattle.sheet_writer.specs.Answers.{as_written}
 use Rattle.find.specs.Answers.{as_searched}
-use Rattle.demands.specs.Calls.{Asked, Given, Allows, figure_in, patch_in, rows_given, ReadAsked, ReadGiven, ReadAllows, WriteAsked, WriteGiven, WriteAllows}
+use Rattle.demands.specs.Calls.{Asked, Given, Allows, figure_in, patch_in, rows_given, ReadAsked, ReadGiven, read_of, ReadAllows, WriteAsked, WriteGiven, written_of, WriteAllows}
 
 module _ (a : Asked) (g : Given) (allowed : Allows a g) where
   -- what holds of the rules' search holds of what came back
@@ -177,12 +175,12 @@ module _ (a : WriteAsked) (g : WriteGiven) (p : WriteAllows a g) where
 pub read_then_written : (a : ReadAsked) (g : ReadGiven) → ReadAllows a g → Bytes a.sheet → g.answer.number ≡ 0 → (b : WriteAsked) (h : WriteGiven) → WriteAllows b h → b.kinds ≡ take g.answer.vertices g.kinds → b.lines ≡ take (3 * g.answer.lines) g.lines → length a.sheet ≤ length b.bytes → (h.answer.number ≡ 0) × (h.answer.count ≡ length a.sheet) × (h.bytes ≡ over a.sheet b.bytes)
 read_then_written a g p small z b h q kinds lines long =
     let again = subst (λ r. r.number ≡ 0 → writer (take r.vertices r.kind_list) (take (3 * r.lines) r.line_list) b.bytes ≡ record { number = 0; line = no_line; count = length a.sheet; bytes = over a.sheet b.bytes }) (sym p) (rules.read_then_written a.sheet a.kinds a.lines b.bytes small long) z in
-    let e : as_written h.answer h.bytes ≡ record { number = 0; line = no_line; count = length a.sheet; bytes = over a.sheet b.bytes } = q ∙ (λ i. writer (kinds i) (lines i) b.bytes) ∙ again in
+    let e : written_of h ≡ record { number = 0; line = no_line; count = length a.sheet; bytes = over a.sheet b.bytes } = q ∙ (λ i. writer (kinds i) (lines i) b.bytes) ∙ again in
     (ap (λ w. w.number) e, ap (λ w. w.count) e, ap (λ w. w.bytes) e)
 
 -- written, then read: lists that were written, read again by `read`, are the same lists
 pub written_then_read : (a : WriteAsked) (g : WriteGiven) → WriteAllows a g → g.answer.number ≡ 0 → (b : ReadAsked) (h : ReadGiven) → ReadAllows b h → b.sheet ≡ take g.answer.count g.bytes → length a.kinds ≤ length b.kinds → length a.lines ≤ length b.lines → (h.answer.number ≡ 0) × (h.kinds ≡ over a.kinds b.kinds) × (h.lines ≡ over a.lines b.lines)
 written_then_read a g p z b h q sheet k l =
     let again = subst (λ w. w.number ≡ 0 → reader (take w.count w.bytes) b.kinds b.lines ≡ record { number = 0; line = no_line; vertices = length a.kinds; lines = length a.lines / 3; kind_list = over a.kinds b.kinds; line_list = over a.lines b.lines }) (sym p) (rules.written_then_read a.kinds a.lines a.bytes b.kinds b.lines k l) z in
-    let e : as_read h.answer h.kinds h.lines ≡ record { number = 0; line = no_line; vertices = length a.kinds; lines = length a.lines / 3; kind_list = over a.kinds b.kinds; line_list = over a.lines b.lines } = q ∙ (λ i. reader (sheet i) b.kinds b.lines) ∙ again in
+    let e : read_of h ≡ record { number = 0; line = no_line; vertices = length a.kinds; lines = length a.lines / 3; kind_list = over a.kinds b.kinds; line_list = over a.lines b.lines } = q ∙ (λ i. reader (sheet i) b.kinds b.lines) ∙ again in
     (ap (λ r. r.number) e, ap (λ r. r.kind_list) e, ap (λ r. r.line_list) e)

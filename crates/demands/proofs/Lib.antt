@@ -3,3 +3,4 @@ pub mod Demands
 pub mod Wrong
 pub mod RowCheck
 pub mod WrongRows
+pub mod Results

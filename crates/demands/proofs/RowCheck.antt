@@ -9,12 +9,11 @@ use Rattle.rules.specs.Place.{Place}
 use Rattle.rules.specs.Calls.{figure_of, patch_of, LineOfTwo}
 use Rattle.rules.specs.RowCheck.{row_at, Good, Repeats, Reached, RowsChecked, row_checks, row_count, row_refusals}
 use Rattle.rules.proofs.RowCheck as rules
-use Rattle.row_check.specs.declared.Checked.{Checked}
-use Rattle.demands.specs.Calls.{Asked, Given, Allows, figure_in, RowsAsked, RowsAllows}
+use Rattle.demands.specs.Calls.{Asked, Given, Allows, figure_in, RowsAsked, RowsSaid, RowsAllows}
 
-module _ (a : RowsAsked) (r : Checked) (allowed : RowsAllows a r) where
+module _ (a : RowsAsked) (r : RowsSaid) (allowed : RowsAllows a r) where
   -- exactly one answer is allowed
-  pub one_rows_answer : (s : Checked) → RowsAllows a s → r ≡ s
+  pub one_rows_answer : (s : RowsSaid) → RowsAllows a s → r ≡ s
   one_rows_answer s other = let e = rules.one_answer a.figure a.patch a.rows allowed other in λ i. record { number = (e.0 i).number; line = (e.0 i).line; row = e.1 i }
 
   -- accepted exactly if the sheets and the list's length are right, every row is a place and no two rows are equal
@@ -46,7 +45,7 @@ module _ (a : RowsAsked) (r : Checked) (allowed : RowsAllows a r) where
   row_zero = rules.row_zero a.figure a.patch a.rows allowed
 
 -- every list our own search returns is accepted: any answer of `find` that is not a refusal, and any answer of `check_rows` to its rows
-pub own_list_accepted : (a : Asked) (g : Given) → Allows a g → g.answer.number ≤ 2 → (b : RowsAsked) (r : Checked) → RowsAllows b r → b.figure ≡ a.figure → b.patch ≡ a.patch → b.rows ≡ take (g.answer.rows * (figure_in a).graph.size) g.list → (r.number ≡ 0) × (r.line ≡ no_line) × (r.row ≡ 0)
+pub own_list_accepted : (a : Asked) (g : Given) → Allows a g → g.answer.number ≤ 2 → (b : RowsAsked) (r : RowsSaid) → RowsAllows b r → b.figure ≡ a.figure → b.patch ≡ a.patch → b.rows ≡ take (g.answer.rows * (figure_in a).graph.size) g.list → (r.number ≡ 0) × (r.line ≡ no_line) × (r.row ≡ 0)
 own_list_accepted a g searched taken b r checked figure patch rows = let e = rules.one_answer b.figure b.patch b.rows checked accepted in (ap (λ v. v.number) e.0, ap (λ v. v.line) e.0, e.1)
   where
     list : List ℕ

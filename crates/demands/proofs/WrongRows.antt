@@ -14,8 +14,7 @@ use Rattle.rules.specs.Calls.{figure_of, patch_of, connected}
 use Rattle.rules.specs.RowCheck.{row_at, row_checks}
 use Rattle.rules.specs.Benches.{c_f, c_p}
 use Rattle.rules.proofs.RowCheck as rules
-use Rattle.row_check.specs.declared.Checked.{Checked}
-use Rattle.demands.specs.Calls.{RowsAsked, RowsMeets}
+use Rattle.demands.specs.Calls.{RowsAsked, RowsSaid, RowsMeets}
 
 -- what is asked at bench c's sheets
 abbrev ask : List ℕ → RowsAsked
@@ -30,7 +29,7 @@ size_two = refl
 pub twice_no_place : (rows : List ℕ) → get_or (row_at (figure_of c_f).graph.size rows 0) 0 0 ≡ get_or (row_at (figure_of c_f).graph.size rows 0) 1 0 → Place (figure_of c_f) (patch_of c_p) (row_at (figure_of c_f).graph.size rows 0) → ⊥
 twice_no_place rows same p = let e : ◌≡◌ {A = ℕ} 0 1 = p.apart 0 1 (omega (arith, size_two)) (omega (arith, size_two)) same in omega arith
 
-module _ (f : RowsAsked → Checked) (meets : RowsMeets f) where
+module _ (f : RowsAsked → RowsSaid) (meets : RowsMeets f) where
   -- one that refuses all (no rows are accepted)
   pub refuses_all_rows : ((a : RowsAsked) → (f a).number ≢ 0) → ⊥
   unfolding figure_of patch_of connected order order_from newcomers verdict row_checks packed layout bits word bit_at kinds_held line_at lines_held kind_bits line_bits plugged dead

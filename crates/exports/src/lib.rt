@@ -9,6 +9,7 @@ ghost use Rattle.exports.specs.Answers.{as_searched, as_read, as_written};
 
 use find::find;
 use row_check::check_rows;
+use sheet::fault::{Verdict, lineless};
 use sheet_reader::read;
 use sheet_writer::write;
 
@@ -60,12 +61,25 @@ pub extern "C" fn gelquorist_find(
 ) -> Found
     ensures { as_searched result list.new memory.new ≡ search figure.now patch.now memory.old list.old allowance }
 {
-    let answer = find(figure, patch, memory, list, allowance);
-    Found {
-        number: answer.number,
-        line: answer.line,
-        rows: answer.rows,
-        tries: answer.tries,
+    match find(figure, patch, memory, list, allowance) {
+        Ok(found) => {
+            let Verdict { number, line } = lineless(u16::from(found.end));
+            Found {
+                number,
+                line,
+                rows: found.rows,
+                tries: found.tries,
+            }
+        }
+        Err(refusal) => {
+            let Verdict { number, line } = Verdict::from(refusal);
+            Found {
+                number,
+                line,
+                rows: 0,
+                tries: 0,
+            }
+        }
     }
 }
 
@@ -73,12 +87,25 @@ pub extern "C" fn gelquorist_find(
 pub extern "C" fn gelquorist_read(sheet: &[u8], kinds: &mut [u16], lines: &mut [u16]) -> Read
     ensures { as_read result kinds.new lines.new ≡ reader sheet.now kinds.old lines.old }
 {
-    let answer = read(sheet, kinds, lines);
-    Read {
-        number: answer.number,
-        line: answer.line,
-        vertices: answer.vertices,
-        lines: answer.lines,
+    match read(sheet, kinds, lines) {
+        Ok(counts) => {
+            let Verdict { number, line } = lineless(0);
+            Read {
+                number,
+                line,
+                vertices: counts.vertices,
+                lines: counts.lines,
+            }
+        }
+        Err(refusal) => {
+            let Verdict { number, line } = Verdict::from(refusal);
+            Read {
+                number,
+                line,
+                vertices: 0,
+                lines: 0,
+            }
+        }
     }
 }
 
@@ -86,11 +113,23 @@ pub extern "C" fn gelquorist_read(sheet: &[u8], kinds: &mut [u16], lines: &mut [
 pub extern "C" fn gelquorist_write(kinds: &[u16], lines: &[u16], bytes: &mut [u8]) -> Written
     ensures { as_written result bytes.new ≡ writer kinds.now lines.now bytes.old }
 {
-    let answer = write(kinds, lines, bytes);
-    Written {
-        number: answer.number,
-        line: answer.line,
-        count: answer.count,
+    match write(kinds, lines, bytes) {
+        Ok(count) => {
+            let Verdict { number, line } = lineless(0);
+            Written {
+                number,
+                line,
+                count,
+            }
+        }
+        Err(refusal) => {
+            let Verdict { number, line } = Verdict::from(refusal);
+            Written {
+                number,
+                line,
+                count: 0,
+            }
+        }
     }
 }
 
@@ -98,10 +137,22 @@ pub extern "C" fn gelquorist_write(kinds: &[u16], lines: &[u16], bytes: &mut [u8
 pub extern "C" fn gelquorist_check_rows(figure: &[u8], patch: &[u8], rows: &[u16]) -> Checked
     ensures { RowsChecked figure.now patch.now rows.now (record { number = result.number; line = result.line }) result.row }
 {
-    let answer = check_rows(figure, patch, rows);
-    Checked {
-        number: answer.number,
-        line: answer.line,
-        row: answer.row,
+    match check_rows(figure, patch, rows) {
+        Ok(()) => {
+            let Verdict { number, line } = lineless(0);
+            Checked {
+                number,
+                line,
+                row: 0,
+            }
+        }
+        Err(refusal) => {
+            let Verdict { number, line } = Verdict::from(refusal);
+            Checked {
+                number,
+                line,
+                row: refusal.row(),
+            }
+        }
     }
 }

@@ -1,2 +1,3 @@
 -- What the figure's contracts cite.
 pub mod FigureTables
+pub mod Checked

@@ -1,3 +1,4 @@
 -- The laws, each file after those that it uses.
 pub mod Checked
 pub mod Loaded
+pub mod Theorems

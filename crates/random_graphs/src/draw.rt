@@ -1,20 +1,26 @@
 // Random graphs as lists: what is drawn is a function of a counter, so that nothing is handed on from draw to draw.
-ghost use Rattle.std.specs.Prelude.{◌<◌};
+ghost use Rattle.std.specs.Prelude.{◌<◌, ◌≤◌};
 
-// Lines as numbers, three a line: the first `count` numbers.
-#[derive(Drop)]
-struct Lines {
-    count: usize,
-    list: [u16; 198],
-}
+use arrayvec::ArrayVec;
+use matcher::Lists;
 
-// The first n kinds, and the first `count` numbers of the lines.
+// The most vertices that a graph has here.
+pub(crate) const MOST: u64 = 12;
+
+// The kinds of a graph, and its lines as three numbers a line.
 #[derive(Drop)]
 pub(crate) struct Graph {
-    pub n: usize,
-    pub kinds: [u16; 12],
-    pub count: usize,
-    pub lines: [u16; 198],
+    kinds: ArrayVec<u16, 12>,
+    lines: ArrayVec<u16, 198>,
+}
+
+impl Graph {
+    pub(crate) fn lists(&self) -> Lists<'_> {
+        Lists {
+            kinds: self.kinds.as_slice(),
+            lines: self.lines.as_slice(),
+        }
+    }
 }
 
 // A number of 32 bits for each t, by products and shifts.
@@ -33,30 +39,30 @@ pub(crate) fn below(t: u64, limit: u64) -> u64
     scramble(t) % limit
 }
 
-// Twelve kinds, each 21 times a number below `choice`.
-fn draw_kinds(t: u64, choice: u64) -> [u16; 12]
-    requires { (0 < choice) × (choice < 5) }
-{
-    let mut list = [0u16; 12];
-    let mut i = 0;
-    while i < 12 {
-        list[i] = (21 * below(t % 1000000000 + (i as u64), choice)) as u16;
-        i += 1;
-    }
-    list
+// What is drawn of a graph: its number of vertices, how dense its lines are, in eighths, and how many kinds it has.
+#[derive(Clone, Copy)]
+pub(crate) struct Shape {
+    pub size: u64,
+    pub dense: u64,
+    pub choice: u64,
+    ghost few: { size ≤ 12 },
+    ghost some: { 0 < choice },
+    ghost small: { choice < 5 },
 }
 
-// Whether a and b are joined in a graph of `size` vertices, where a < b: as b and the one earlier vertex that is drawn for it, with one in sixteen left out, or by chance, `dense` times in eight.
-fn joins(t: u64, a: u64, b: u64, size: u64, dense: u64) -> bool {
-    if size <= b {
-        return false;
+// A kind for each vertex, 21 times a number below the choice.
+fn draw_kinds(t: u64, shape: Shape) -> ArrayVec<u16, 12> {
+    let mut kinds = ArrayVec::new();
+    for i in 0..shape.size {
+        kinds.push((21 * below(t % 1000000000 + i, shape.choice)) as u16);
     }
-    if b <= a {
-        return false;
-    }
-    if 11 < b {
-        return false;
-    }
+    kinds
+}
+
+// Whether a and b are joined, where a < b: as b and the one earlier vertex that is drawn for it, with one in sixteen left out, or by chance.
+fn joins(t: u64, a: u64, b: u64, dense: u64) -> bool
+    requires { (a < b) × (b < 12) }
+{
     let at = t % 1000000000;
     if below(at + 30 + b, b) == a {
         return below(at + 50 + b, 16) != 0;
@@ -64,47 +70,25 @@ fn joins(t: u64, a: u64, b: u64, size: u64, dense: u64) -> bool {
     below(at + 100 + 12 * a + b, 8) < dense
 }
 
-// A line more, where there is room for it.
-fn put_line(lines: Lines, sort: u16, a: u16, b: u16) -> Lines {
-    let k = lines.count;
-    if 195 < k {
-        return lines;
-    }
-    let mut list = lines.list;
-    list[k] = sort;
-    list[k + 1] = a;
-    list[k + 2] = b;
-    Lines { count: k + 3, list }
-}
-
 // The lines of a graph, ascending.
-fn draw_lines(t: u64, size: u64, dense: u64) -> Lines {
-    let mut lines = Lines {
-        count: 0,
-        list: [0u16; 198],
-    };
-    let mut k = 0;
-    while k < 144 {
-        if joins(t, k / 12, k % 12, size, dense) {
-            let sort = below(t % 1000000000 + 300 + k, 3) as u16;
-            lines = put_line(lines, sort, (k / 12) as u16, (k % 12) as u16);
+fn draw_lines(t: u64, shape: Shape) -> ArrayVec<u16, 198> {
+    let mut lines = ArrayVec::new();
+    for a in 0..shape.size {
+        for b in a + 1..shape.size {
+            if joins(t, a, b, shape.dense) {
+                let sort = below(t % 1000000000 + 300 + 12 * a + b, 3);
+                // there is always room: 12 vertices have 66 pairs
+                let _ = lines.try_extend_from_slice(&[sort as u16, a as u16, b as u16]);
+            }
         }
-        k += 1;
     }
     lines
 }
 
-// A graph of at most 12 vertices, its kinds drawn from k on and the rest from t on.
-pub(crate) fn draw_graph(t: u64, size: u64, dense: u64, k: u64, choice: u64) -> Graph
-    requires { (0 < choice) × (choice < 5) }
-{
-    let kinds = draw_kinds(k, choice);
-    let lines = draw_lines(t, size, dense);
-    let list = lines.list;
+// A graph, its kinds drawn from k on and its lines from t on.
+pub(crate) fn draw_graph(t: u64, k: u64, shape: Shape) -> Graph {
     Graph {
-        n: size as usize,
-        kinds,
-        count: lines.count,
-        lines: list,
+        kinds: draw_kinds(k, shape),
+        lines: draw_lines(t, shape),
     }
 }

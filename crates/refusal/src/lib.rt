@@ -1,91 +1,94 @@
-// A refusal in words, on standard error: the number, what it means, and the line that it is about, of a text counted from 1, of a sheet from 0. Numbers from 71 on are of the text alone (docs/TEXT.md), the others document 01's.
+// Refusals in words, for standard error: the number, what it means, and the line that it is about, of a text counted from 1, of a sheet from 0. Numbers from 71 on are of the text alone (docs/TEXT.md), the others document 01's.
 #![tactic(auto)]
 
-ghost use Rattle.std.specs.Prelude.{◌≡◌};
+use sheet::fault::{BadLine, Fault, LineFault};
+use sheet_writer as writer;
+use std::fmt;
+use text::fault::{Reason, Refusal, TextFault};
 
-// A write that fails is let go, here and below: there is nowhere else to say it.
-fn tell(rt: &impl Eprint, words: &str) {
-    let _ = rt.eprintln(words);
-}
+// A refusal of a sheet that is to become text.
+#[derive(Clone, Copy, Debug, PartialEq, Eq)]
+pub struct SheetRefused(pub Fault);
 
-// What a number of the text means.
-fn tell_of_text(rt: &impl Eprint, number: u16) {
-    match number {
-        71 => tell(
-            rt,
-            "a line begins with vertex, panel, cable or normalled, or with # for a comment",
-        ),
-        72 => tell(rt, "a number from 0 to 65,535 belongs here"),
-        73 => tell(
-            rt,
-            "after a vertex's number comes its kind: module, output, input or blank, and a number",
-        ),
-        74 => tell(
-            rt,
-            "the word does not fit the kind: module 0 to 15, output 16 to 31, input 32 to 59, blank 60 to 63",
-        ),
-        75 => tell(
-            rt,
-            "the item is complete before the line ends; a comment begins with #",
-        ),
-        76 => tell(
-            rt,
-            "vertices are numbered from 0 on, each one more than the one before it",
-        ),
-        77 => tell(rt, "the text is longer than 131,072 bytes"),
-        _ => tell(rt, "no meaning is known for this number"),
+// A refusal of a text, about one of its lines.
+#[derive(Clone, Copy, Debug, PartialEq, Eq)]
+pub struct TextRefused(pub Refusal);
+
+// What is wrong with a line.
+fn line_words(fault: LineFault) -> &'static str {
+    match fault {
+        LineFault::Unfit => {
+            "a line of a type above 2, with an end not below the vertex count, or whose first end is not below its second"
+        }
+        LineFault::Unordered => "a line that is not after the one before it",
     }
 }
 
-// What a number means.
-fn tell_of(rt: &impl Eprint, number: u16) {
-    match number {
-        21 => tell(
-            rt,
-            "the sheet is shorter than 3 bytes, or not the length its counts give",
-        ),
-        22 => tell(
-            rt,
-            "a count outside the limits: 1 to 512 vertices, up to 2,048 lines",
-        ),
-        23 => tell(rt, "a filling bit is set"),
-        24 => tell(
-            rt,
-            "a line of a type above 2, with an end not below the vertex count, or whose first end is not below its second",
-        ),
-        25 => tell(rt, "a line that is not after the one before it"),
-        35 => tell(rt, "a kind above 63"),
-        _ => tell_of_text(rt, number),
+// What is wrong with a sheet.
+fn sheet_words(fault: Fault) -> &'static str {
+    match fault {
+        Fault::Length => "the sheet is shorter than 3 bytes, or not the length its counts give",
+        Fault::Counts => "a count outside the limits: 1 to 512 vertices, up to 2,048 lines",
+        Fault::Filling => "a filling bit is set",
+        Fault::At(bad) => line_words(bad.fault),
     }
 }
 
-// A line's number, and what stands after it.
-fn tell_line(rt: &impl Eprint, line: u64, after: &str) {
-    let _ = eprint!(rt; "line {line}{after}");
-}
-
-fn tell_number(rt: &impl Eprint, number: u16) {
-    let _ = eprint!(rt; "{number}: ");
-}
-
-// A refusal of a sheet, and the line that it is about unless that is 65,535; the number said.
-pub fn say_of_sheet(rt: &impl Eprint, line: u16, number: u16) -> u16
-    ensures { result ≡ number }
-{
-    tell_number(rt, number);
-    if line != 65535 {
-        tell_line(rt, line as u64, " of the sheet, counted from 0: ");
+// What is wrong with a text by itself.
+fn text_words(fault: TextFault) -> &'static str {
+    match fault {
+        TextFault::Item => {
+            "a line begins with vertex, panel, cable or normalled, or with # for a comment"
+        }
+        TextFault::Number => "a number from 0 to 65,535 belongs here",
+        TextFault::Word => {
+            "after a vertex's number comes its kind: module, output, input or blank, and a number"
+        }
+        TextFault::Misfit => {
+            "the word does not fit the kind: module 0 to 15, output 16 to 31, input 32 to 59, blank 60 to 63"
+        }
+        TextFault::More => "the item is complete before the line ends; a comment begins with #",
+        TextFault::Turn => {
+            "vertices are numbered from 0 on, each one more than the one before it"
+        }
+        TextFault::Length => "the text is longer than 131,072 bytes",
     }
-    tell_of(rt, number);
-    number
 }
 
-// A refusal of a text, about one of its lines; the number said.
-pub fn say_line(rt: &impl Eprint, line: usize, number: u16) -> u16
-    ensures { result ≡ number }
-{
-    tell_line(rt, line as u64, ": ");
-    tell_number(rt, number);
-    tell_of(rt, number);
-    number
+// Why the writer refuses. No text's lists are uneven, and `text_to_sheet` lends room for any sheet.
+fn writer_words(refusal: writer::Refusal) -> &'static str {
+    match refusal {
+        writer::Refusal::Uneven => "a line list that is no whole number of lines",
+        writer::Refusal::Counts => sheet_words(Fault::Counts),
+        writer::Refusal::Kind => "a kind above 63",
+        writer::Refusal::At(bad) => line_words(bad.fault),
+        writer::Refusal::Room => "there are too few bytes for the sheet",
+    }
+}
+
+impl fmt::Display for SheetRefused {
+    fn fmt<W: fmt::Write>(&self, f: &mut fmt::Formatter<W>) -> fmt::Result {
+        let SheetRefused(fault) = *self;
+        write!(f, "{}: ", fault.verdict(20).number)?;
+        if let Fault::At(BadLine { line, .. }) = fault {
+            write!(f, "line {line} of the sheet, counted from 0: ")?;
+        }
+        f.write_str(sheet_words(fault))
+    }
+}
+
+impl fmt::Display for TextRefused {
+    fn fmt<W: fmt::Write>(&self, f: &mut fmt::Formatter<W>) -> fmt::Result {
+        let TextRefused(Refusal { line, reason }) = *self;
+        let words = match reason {
+            Reason::Text(fault) => text_words(fault),
+            Reason::Sheet(refusal) => writer_words(refusal),
+        };
+        write!(f, "line {line}: {}: {words}", reason.number())
+    }
+}
+
+// A refusal on standard error. A write that fails is let go: there is nowhere else to say it.
+pub fn say(rt: &impl Eprint, refusal: impl fmt::Display + Drop) {
+    let _ = eprintln!(rt; "{refusal}");
 }

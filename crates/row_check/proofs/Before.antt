@@ -1,50 +1,66 @@
--- The checks before the rows', part by part. Assumes nothing.
-use Prim.Native.Nat.{ℕ, ◌%◌}
-use mathlib.Core.Path.{◌≡◌, ap, sym, ◌∙◌}
-use mathlib.Core.List.{List}
+-- The checks before the rows', part by part: what is refused by them, and what is tested after them. Assumes nothing.
+use Rattle.std.proofs.Common.{ℕ, ◌%◌, ◌≡◌, List, length, Result, Ok, Err, refl, ap, sym, subst, ◌∙◌, arith}
 use borrow.Author.Tests.{eq-eqb, ne_eqb}
 use lib.Dec.{eqb}
-use lib.ListN.{length}
-use Rattle.rules.specs.Checks.{Verdict, lineless, Check, verdict, figure_limits, patch_limits, Accepted, sheet_verdict}
-use Rattle.rules.specs.Calls.{figure_of, figure_checks}
-use Rattle.rules.specs.RowCheck.{row_checks}
-use Rattle.rules.proofs.Accepted.{accepted_iff, pair_figure, pair_patch, pair_last, pair_none, pair_passes, figure_iff}
+use Rattle.std.specs.Result.{IsErr, IsErrAnd}
+use mathlib.Core.Bool.{false≢true}
+use Rattle.rules.specs.Checks.{lineless, Check, verdict, figure_limits, patch_limits, sheet_verdict}
+use Rattle.rules.specs.Calls.{figure_of, patch_of, figure_checks}
+use Rattle.rules.specs.RowCheck.{row_checks, row_count, RowsTested, RowsChecked, refused, tested}
+use Rattle.rules.proofs.Accepted.{pair_figure, pair_patch, pair_last, pair_none}
+use Rattle.sheet.specs.Check.{fault_verdict}
+use Rattle.sheet.specs.declared.fault.Fault.{Fault}
+use Rattle.sheet.proofs.Verdicts.{fault_positive}
+use Rattle.figure.proofs.Verdict.{sheet_fails}
+use Rattle.figure.specs.Checked as figure
+use Rattle.figure.specs.declared.checked.Refusal.{Refusal as FigureRefusal}
+use Rattle.figure.specs.declared.checked.Refusal.TheVariants.{Sheet, Parts}
+
+-- a figure that is refused is not answered 0, nor is a patch
+refusal_positive : (r : FigureRefusal) → (figure.refusal_verdict r).number ≡ 0 → ⊥
+refusal_positive (Sheet f) z = omega (arith, fault_positive 10 f)
+refusal_positive Parts z = omega arith
+
+patch_positive : (f : Fault) → (fault_verdict 20 f).number ≡ 0 → ⊥
+patch_positive f z = omega (arith, fault_positive 20 f)
+
+-- a result that is a refusal
+pub refusal_is : {A E : Type 0} {e : E} (r : Result A E) → IsErr r × IsErrAnd r (λ x. x ≡ e) → r ≡ Err e
+refusal_is (Ok a) h = absurd (false≢true h.0)
+refusal_is (Err x) h = ap Err h.1
+
+-- a sheet that its check refuses is refused as a figure
+pub by_sheet : (f : List ℕ) (r : Fault) → fault_verdict 10 r ≡ sheet_verdict figure_limits f → fault_verdict 10 r ≡ verdict (figure_checks f)
+by_sheet f r e = sheet_fails f e (refusal_positive (Sheet r))
 
 module _ (f p rows : List ℕ) where
   abbrev whole : Check
   whole = (eqb (length rows % (figure_of f).graph.size) 0, lineless 42)
 
-  -- what the figure's checks answer, where one fails
-  pub by_figure : {v : Verdict} → v ≡ verdict (figure_checks f) → (v.number ≡ 0 → ⊥) → v ≡ verdict (row_checks f p rows)
+  -- a figure that its checks refuse
+  pub by_figure : (r : FigureRefusal) → figure.refusal_verdict r ≡ verdict (figure_checks f) → RowsChecked f p rows (figure.refusal_verdict r) 0
   unfolding row_checks
-  by_figure = pair_figure f p whole
+  by_figure r e = refused (refusal_positive r) (pair_figure f p whole e (refusal_positive r)) refl
 
-  module _ (good : (verdict (figure_checks f)).number ≡ 0) where
-    -- then the patch's
-    pub by_patch : {v : Verdict} → v ≡ sheet_verdict patch_limits p → (v.number ≡ 0 → ⊥) → v ≡ verdict (row_checks f p rows)
+  module _ (good : lineless 0 ≡ verdict (figure_checks f)) where
+    passed : (verdict (figure_checks f)).number ≡ 0
+    passed = sym (ap (λ v. v.number) good)
+
+    -- then a patch
+    pub by_patch : (r : Fault) → fault_verdict 20 r ≡ sheet_verdict patch_limits p → RowsChecked f p rows (fault_verdict 20 r) 0
     unfolding row_checks
-    by_patch = pair_patch f p whole good
+    by_patch r e = refused (patch_positive r) (pair_patch f p whole passed e (patch_positive r)) refl
 
-    module _ (sound : (sheet_verdict patch_limits p).number ≡ 0) (n : ℕ) (sized : (figure_of f).graph.size ≡ n) where
+    module _ (sound : lineless 0 ≡ sheet_verdict patch_limits p) {n : ℕ} (sized : (figure_of f).graph.size ≡ n) where
       left_over : length rows % (figure_of f).graph.size ≡ length rows % n
       left_over = ap (λ k. length rows % k) sized
 
       -- then 42
-      pub by_length : (length rows % n ≡ 0 → ⊥) → lineless 42 ≡ verdict (row_checks f p rows)
+      pub by_length : (length rows % n ≡ 0 → ⊥) → RowsChecked f p rows (lineless 42) 0
       unfolding row_checks
-      by_length h = pair_last f p whole good sound (ne_eqb _ 0 (λ z. h (sym left_over ∙ z)))
+      by_length h = refused (λ z. omega arith) (pair_last f p whole passed (sym (ap (λ v. v.number) sound)) (ne_eqb _ 0 (λ z. h (sym left_over ∙ z)))) refl
 
-      -- or none
-      pub by_none : length rows % n ≡ 0 → lineless 0 ≡ verdict (row_checks f p rows)
+      -- or the rows are tested
+      pub by_rows : length rows % n ≡ 0 → {sheet : List ℕ} → sheet ≡ f → {k i : ℕ} → RowsTested (figure_of sheet) (patch_of p) rows (row_count sheet rows) k i → RowsChecked f p rows (lineless k) i
       unfolding row_checks
-      by_none h = pair_none f p whole good sound (eq-eqb _ 0 (left_over ∙ h))
-
-  -- where there is none, the figure's checks pass
-  pub figure_passes : {v : Verdict} → v ≡ verdict (figure_checks f) → (verdict (row_checks f p rows)).number ≡ 0 → v.number ≡ 0
-  unfolding row_checks
-  figure_passes e z = ap (λ w. w.number) e ∙ ((pair_passes f p whole).0 z).0
-
-  -- and both sheets are accepted
-  pub both_accepted : (verdict (row_checks f p rows)).number ≡ 0 → Accepted figure_limits f × Accepted patch_limits p
-  unfolding row_checks
-  both_accepted e = let h = (pair_passes f p whole).0 e in (((figure_iff f).0 h.0).0, (accepted_iff patch_limits p).0 h.1)
+      by_rows h same {k} {i} t = tested (sym (ap (λ v. v.number) (pair_none f p whole passed (sym (ap (λ v. v.number) sound)) (eq-eqb _ 0 (left_over ∙ h))))) refl (subst (λ s. RowsTested (figure_of s) (patch_of p) rows (row_count s rows) k i) same t)

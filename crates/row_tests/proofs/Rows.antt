@@ -1,16 +1,12 @@
 -- Rows of a list: where they lie, and how long they are. Assumes nothing.
-use Prim.Native.Nat.{ℕ, ◌+◌, ◌-◌, ◌*◌, ◌≤◌, ◌<◌}
+use Prim.Native.Nat.{ℕ, ◌+◌, ◌-◌, ◌*◌, ◌≤◌}
 use mathlib.Core.Path.{◌≡◌}
 use mathlib.Core.List.{List}
-use native.Mathlib.Nat.{suc-mul, mul-le-mul_right, add-sub_cancel_left}
+use native.Mathlib.Nat.{add-sub_cancel_left}
 use native.Mathlib.Omega.{arith}
 use lib.ListN.{length, take, drop, length-drop}
 use lib.Seq.{length-take-le}
 use Rattle.rules.specs.RowCheck.{row_at}
-
--- an earlier row lies in the list where a later one does
-pub earlier_fits : (n i j len : ℕ) → j < i → i * n + n ≤ len → j * n + n ≤ len
-earlier_fits n i j len h k = omega (arith, suc-mul j n, mul-le-mul_right n h)
 
 -- a row has n entries
 pub row_long : (n i : ℕ) (rows : List ℕ) → i * n + n ≤ length rows → length (row_at n rows i) ≡ n

@@ -1,9 +1,11 @@
 -- What a row is tested against: the patch tables, and a figure as its kinds and the ends of its lines. Assumes nothing: these are definitions.
-use Rattle.std.specs.Prelude.{ℕ, ◌≤◌, ◌<◌, ◌≡◌, true, List, length, get_or}
+use Rattle.std.specs.Prelude.{ℕ, ◌≤◌, ◌<◌, ◌≡◌, true, length, get_or}
+use mathlib.Core.List.{List, Memᴰ, map}
 use Rattle.laws.specs.Lists.{has}
 use Rattle.rules.specs.Graph.{Drawn}
 use Rattle.rules.specs.Place.{Figure, Patch, figure_kind, entry}
 use Rattle.patch.specs.Tables.{run_at, kind_at, Holds}
+use Rattle.row_tests.specs.declared.place.Ends.{Ends}
 
 -- every entry of a row is a number of the tables
 abbrev pub Within : List ℕ → Type 0
@@ -17,18 +19,25 @@ KindsFit t size kinds row = (u : ℕ) → u < length row → (entry row u < size
 abbrev pub Apart : List ℕ → Type 0
 Apart row = (u w : ℕ) → u < length row → w < length row → entry row u ≡ entry row w → u ≡ w
 
--- every one of m lines, given by their ends, lies on a patch line
-abbrev pub LinesKept : (t first second : List ℕ) (m : ℕ) (row : List ℕ) → Type 0
-LinesKept t first second m row = (j : ℕ) → j < m → has (entry row (get_or second j 0)) (run_at t (entry row (get_or first j 0))) ≡ true
+-- both ends of every line are entries of a row of n
+abbrev pub EndsBelow : ℕ → List Ends → Type 0
+EndsBelow n lines = (l : Ends) → Memᴰ l lines → (l.first < n) × (l.second < n)
 
--- two arrays hold the ends of a figure's m lines
-pub record HoldsEnds (F : Figure) (first second : List ℕ) (m : ℕ) : Type 0 where
-  pub many : length F.graph.lines ≡ m
-  pub few : m ≤ 64
-  pub ends : (j : ℕ) → j < m → get_or F.graph.lines j (0, 0) ≡ (get_or first j 0, get_or second j 0)
+-- every line, given by its ends, lies on a patch line
+abbrev pub LinesKept : (t : List ℕ) (lines : List Ends) (row : List ℕ) → Type 0
+LinesKept t lines row = (l : Ends) → Memᴰ l lines → has (entry row l.second) (run_at t (entry row l.first)) ≡ true
+
+-- the two ends that a struct says
+abbrev pub pair_of : Ends → ℕ × ℕ
+pair_of l = (l.first, l.second)
+
+-- a list has the ends of a figure's lines, in their order
+pub record HoldsEnds (F : Figure) (lines : List Ends) : Type 0 where
+  pub few : length lines ≤ 64
+  pub ends : F.graph.lines ≡ map pair_of lines
 
 -- the tables hold a patch, and the arrays a figure of n vertices
-pub record Against (F : Figure) (P : Patch) (t : List ℕ) (size : ℕ) (kinds first second : List ℕ) (m n : ℕ) : Type 0 where
+pub record Against (F : Figure) (P : Patch) (t : List ℕ) (size : ℕ) (kinds : List ℕ) (lines : List Ends) (n : ℕ) : Type 0 where
   pub tables : Holds P t
   pub patch_size : P.graph.size ≡ size
   pub figure_size : F.graph.size ≡ n
@@ -36,4 +45,4 @@ pub record Against (F : Figure) (P : Patch) (t : List ℕ) (size : ℕ) (kinds f
   pub few : n ≤ 32
   pub drawn : Drawn F.graph
   pub kinds_held : (u : ℕ) → u < n → get_or kinds u 0 ≡ figure_kind F u
-  pub ends_held : HoldsEnds F first second m
+  pub ends_held : HoldsEnds F lines

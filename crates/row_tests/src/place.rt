@@ -1,62 +1,46 @@
 // Whether a row is a place: its entries and their kinds, that no two are the same, and the figure's lines one by one.
-ghost use Rattle.std.specs.Prelude.{ℕ, ◌≤◌, ◌<◌, length, get_or};
-ghost use Rattle.rules.specs.Checks.{Accepted, figure_limits};
-ghost use Rattle.rules.specs.Place.{Figure, Patch, Place, entry};
+ghost use Rattle.std.specs.Prelude.{◌≤◌, length};
+ghost use Rattle.rules.specs.Place.{Figure, Patch, Place};
 ghost use Rattle.rules.specs.Calls.{figure_of};
 ghost use Rattle.patch.specs.Tables.{Linked};
 ghost use Rattle.row_tests.specs.Says.{Says};
-ghost use Rattle.row_tests.specs.Against.{KindsFit, Apart, LinesKept, HoldsEnds, Within, Against};
+ghost use Rattle.row_tests.specs.Against.{KindsFit, Apart, LinesKept, HoldsEnds, EndsBelow, Within, Against};
 
-use patch::{PatchVertex, joined, kind_of};
-use sheet::fields::{counts, line_at};
+use arrayvec::ArrayVec;
+use patch::{PatchTables, PatchVertex};
+use sheet::check::FigureSheet;
 
-// The ends of a figure's lines: the first `count` entries of two arrays.
-#[derive(Drop)]
+// The ends of a figure's line.
+#[derive(Clone, Copy, Debug, PartialEq, Eq, Default)]
 pub struct Ends {
-    pub first: [u16; 64],
-    pub second: [u16; 64],
-    pub count: usize,
+    pub first: u16,
+    pub second: u16,
 }
 
 // The lines of a checked figure's sheet, read once for all rows.
-pub fn ends_of(sheet: &[u8]) -> Ends
-    requires { Accepted figure_limits sheet.now }
-    ensures { HoldsEnds (figure_of sheet.now) result.first result.second result.count }
+pub fn ends_of(sheet: &FigureSheet<'_>) -> ArrayVec<Ends, 64>
+    ensures { HoldsEnds (figure_of sheet.now) result.items }
 {
-    let c = counts(sheet);
-    let n = c.vertices as usize;
-    let m = c.lines as usize;
-    let mut first = [0u16; 64];
-    let mut second = [0u16; 64];
-    let mut i = 0;
-    while i < m {
-        let l = line_at(sheet, 22 + 6 * n + 20 * i);
-        first[i] = l.first;
-        second[i] = l.second;
-        i += 1;
+    let mut ends = ArrayVec::new();
+    for j in 0..sheet.lines() {
+        let line = sheet.line(j);
+        ends.push(Ends {
+            first: line.first,
+            second: line.second,
+        });
     }
-    Ends {
-        first,
-        second,
-        count: m,
-    }
+    ends
 }
 
 // Whether every entry is a patch vertex of its figure vertex's kind.
-pub(crate) fn kinds_fit(tables: &[u16], size: u16, kinds: &[u16; 32], row: &[u16]) -> bool
-    requires { Linked tables.now × (size ≤ 512) × (length row.now ≤ 32) }
+pub(crate) fn kinds_fit(tables: &PatchTables<'_>, size: u16, kinds: &[u16; 32], row: &[u16]) -> bool
+    requires { (size ≤ 512) × (length row.now ≤ 32) }
     ensures { Says result (KindsFit tables.now size kinds.now row.now) }
 {
-    let mut u = 0;
-    while u < row.len() {
-        let v = row[u];
-        if size <= v {
+    for (u, &v) in row.iter().enumerate() {
+        if size <= v || tables.kind_of(PatchVertex::new(v)) != kinds[u] {
             return false;
         }
-        if kind_of(tables, PatchVertex(v)) != kinds[u] {
-            return false;
-        }
-        u += 1;
     }
     true
 }
@@ -66,62 +50,41 @@ pub(crate) fn apart(row: &[u16]) -> bool
     requires { Within row.now }
     ensures { Says result (Apart row.now) }
 {
-    let mut used = [0u8; 512];
-    let mut u = 0;
-    while u < row.len() {
-        let v = row[u] as usize;
-        if used[v] != 0 {
+    let mut used = [false; 512];
+    for &v in row {
+        if used[v as usize] {
             return false;
         }
-        used[v] = 1;
-        u += 1;
+        used[v as usize] = true;
     }
     true
 }
 
-// Whether every one of m figure lines lies on a patch line.
-pub(crate) fn lines_kept(
-    tables: &[u16],
-    first: &[u16; 64],
-    second: &[u16; 64],
-    m: usize,
-    row: &[u16],
-) -> bool
-    requires { Linked tables.now × (m ≤ 64) × Within row.now × ((j : ℕ) → j < m → (get_or first.now j 0 < length row.now) × (get_or second.now j 0 < length row.now)) }
-    ensures { Says result (LinesKept tables.now first.now second.now m row.now) }
+// Whether every one of the figure's lines lies on a patch line.
+pub(crate) fn lines_kept(tables: &PatchTables<'_>, lines: &[Ends], row: &[u16]) -> bool
+    requires { Linked tables.now × Within row.now × EndsBelow (length row.now) lines.now }
+    ensures { Says result (LinesKept tables.now lines.now row.now) }
 {
-    let mut j = 0;
-    while j < m {
-        let a = first[j] as usize;
-        let b = second[j] as usize;
-        let v = PatchVertex(row[a]);
-        let w = PatchVertex(row[b]);
-        if !joined(tables, v, w) {
+    for line in lines {
+        let v = PatchVertex::new(row[line.first as usize]);
+        let w = PatchVertex::new(row[line.second as usize]);
+        if !tables.joined(v, w) {
             return false;
         }
-        j += 1;
     }
     true
 }
 
 // Whether a row is a place.
 pub fn is_place(
-    tables: &[u16],
+    tables: &PatchTables<'_>,
     size: u16,
     kinds: &[u16; 32],
-    first: &[u16; 64],
-    second: &[u16; 64],
-    m: usize,
+    lines: &[Ends],
     row: &[u16],
 ) -> bool
-    requires { (F : Figure) × ((P : Patch) × Against F P tables.now size kinds.now first.now second.now m (length row.now)) }
-    ensures { (F : Figure) (P : Patch) → Against F P tables.now size kinds.now first.now second.now m (length row.now) → Says result (Place F P row.now) }
+    requires { (F : Figure) × ((P : Patch) × Against F P tables.now size kinds.now lines.now (length row.now)) }
+    ensures { (F : Figure) (P : Patch) → Against F P tables.now size kinds.now lines.now (length row.now) → Says result (Place F P row.now) }
 {
-    if !kinds_fit(tables, size, kinds, row) {
-        return false;
-    }
-    if !apart(row) {
-        return false;
-    }
-    lines_kept(tables, first, second, m, row)
+    kinds_fit(tables, size, kinds, row) && apart(row) && lines_kept(tables, lines, row)
 }

@@ -1,164 +1,154 @@
-// The checks of a sheet, 11 to 15 for a figure and 21 to 25 for a patch, in one pass over its lines.
-ghost use Rattle.std.specs.Prelude.{◌≡◌, ◌≤◌};
+// A sheet whose checks passed: 11 to 15 for a figure's and 21 to 25 for a patch's, in one pass over its lines.
+ghost use Rattle.std.specs.Prelude.{◌≡◌, ◌+◌, ◌*◌, ◌≤◌, ◌<◌, ℕ, List, length, IfOk};
 ghost use Rattle.std.proofs.Math.Option.{none};
 ghost use Rattle.rules.specs.Sheet as rules;
-ghost use Rattle.rules.specs.Checks.{lineless, verdict, line_fits, comes_after, line_checks, sheet_verdict, figure_limits, patch_limits};
+ghost use Rattle.rules.specs.Checks.{verdict, line_fits, comes_after, line_checks, sheet_verdict, Accepted};
 ghost use Rattle.sheet.specs.Fields.{line_of};
-ghost use Rattle.sheet.specs.Check.{limits_of, verdict_of, head_checks, line_number};
+ghost use Rattle.sheet.specs.Check.{check_verdict, lines_verdict, Gives};
 
-use crate::fields::{SheetLine, bit_length, counts, field, line_at};
+use crate::fault::{BadLine, Fault, LineFault};
+use crate::fields::{LineType, SheetLine, bit_length, counts, field, kind_at, line_at};
+use std::marker::Model;
 
-// The most vertices and lines that a sheet may have, and the ten that its checks are numbered from.
-#[derive(Clone, Copy)]
-pub(crate) struct SheetLimits {
-    pub vertices: u16,
-    pub lines: u16,
-    pub ten: u16,
-}
-
-// What a check answers: 0, or the number of the first check to fail; and the line that it is about, counted from 0.
-#[derive(Clone, Copy)]
-pub struct Verdict {
-    pub number: u16,
-    pub line: u16,
-}
-
-// An answer that is about no line.
-pub fn lineless(number: u16) -> Verdict
-    ensures { verdict_of result ≡ lineless number }
-{
-    Verdict {
-        number,
-        line: 65535,
-    }
-}
-
-pub(crate) fn line_fits(line: SheetLine, n: u16) -> bool
+// Whether a line's type exists, and its ends are vertices in their order.
+fn line_fits(line: SheetLine, n: u16) -> bool
     ensures { result ≡ line_fits n (line_of line) }
 {
-    if 2 < line.sort {
-        return false;
-    }
-    if n <= line.second {
-        return false;
-    }
-    line.first < line.second
+    LineType::try_from(line.sort).is_ok() && line.second < n && line.first < line.second
 }
 
-pub(crate) fn comes_after(before: SheetLine, line: SheetLine) -> bool
+// Whether a line comes after another by (first, second), whatever their types.
+fn comes_after(before: SheetLine, line: SheetLine) -> bool
     ensures { result ≡ comes_after (line_of before) (line_of line) }
 {
-    let earlier = (before.first as u32) * 65536 + (before.second as u32);
-    let later = (line.first as u32) * 65536 + (line.second as u32);
-    earlier < later
-}
-
-// The number that the checks of one line give: its fit before its order.
-pub fn line_number(before: SheetLine, line: SheetLine, n: u16, ten: u16) -> u16
-    requires { ten ≤ 20 }
-    ensures { result ≡ line_number ten n (line_of before) (line_of line) }
-{
-    if !line_fits(line, n) {
-        return ten + 4;
-    }
-    if !comes_after(before, line) {
-        return ten + 5;
-    }
-    0
+    (before.first, before.second) < (line.first, line.second)
 }
 
 // The line before the first: every line that fits comes after it.
-pub fn no_line() -> SheetLine
-    ensures { line_of result ≡ record { type = 0; first = 0; second = 0 } }
-{
-    SheetLine {
-        sort: 0,
-        first: 0,
-        second: 0,
-    }
-}
+const NO_LINE: SheetLine = SheetLine {
+    sort: 0,
+    first: 0,
+    second: 0,
+};
 
-fn check_lines(sheet: &[u8], n: u16, m: u16, ten: u16) -> Verdict
-    requires { ten ≤ 20 }
-    ensures { verdict_of result ≡ verdict (line_checks ten n 0 none (rules.lines_held sheet.now n m)) }
+// The checks of m lines among n vertices, each given by its number: its fit before its order.
+pub fn check_lines<F: Fn(usize) -> SheetLine>(n: u16, m: u16, line: F) -> Result<(), BadLine>
+    requires { (j : ℕ) → j < m → F.pre line j }
+    ensures { (ten : ℕ) (ls : List rules.Line) → Gives F.post line m ls → lines_verdict ten result ≡ verdict (line_checks ten n 0 none ls) }
 {
-    let mut before = no_line();
-    let mut at = 22 + 6 * (n as usize);
-    let mut i = 0;
-    while i < m {
-        let line = line_at(sheet, at);
-        i += 1;
-        at += 20;
-        let number = line_number(before, line, n, ten);
-        if number != 0 {
-            let last = i - 1;
-            return Verdict { number, line: last };
+    let mut before = NO_LINE;
+    for j in 0..m {
+        let next = line(j as usize);
+        let bad = move |fault| BadLine { line: j, fault };
+        if !line_fits(next, n) {
+            return Err(bad(LineFault::Unfit));
         }
-        before = line;
+        if !comes_after(before, next) {
+            return Err(bad(LineFault::Unordered));
+        }
+        before = next;
     }
-    lineless(0)
+    Ok(())
 }
 
-// The checks before those of the lines: under 3 bytes, counts, length, filling.
-fn check_head(sheet: &[u8], limits: SheetLimits) -> u16
-    requires { limits.ten ≤ 20 }
-    ensures { lineless result ≡ verdict (head_checks (limits_of limits) sheet.now) }
-{
-    if sheet.len() < 3 {
-        return limits.ten + 1;
-    }
-    let c = counts(sheet);
-    if c.vertices == 0 {
-        return limits.ten + 2;
-    }
-    if limits.vertices < c.vertices {
-        return limits.ten + 2;
-    }
-    if limits.lines < c.lines {
-        return limits.ten + 2;
-    }
-    let end = bit_length(c.vertices as usize, c.lines as usize);
-    if sheet.len() != (end + 7) / 8 {
-        return limits.ten + 1;
-    }
-    if 0 < field(sheet, end, 8 * sheet.len() - end) {
-        return limits.ten + 3;
-    }
-    0
+// A sheet whose checks passed, with its counts. It may have so many vertices and lines, and its checks are numbered from a ten. A clause sees its bytes.
+#[derive(Drop)]
+pub struct Sheet<'a, const VERTICES: u16, const LINES: u16, const TEN: u16> {
+    bytes: &'a [u8],
+    vertices: u16,
+    lines: u16,
 }
 
-fn check(sheet: &[u8], limits: SheetLimits) -> Verdict
-    requires { limits.ten ≤ 20 }
-    ensures { verdict_of result ≡ sheet_verdict (limits_of limits) sheet.now }
-{
-    let head = check_head(sheet, limits);
-    if head != 0 {
-        return lineless(head);
+impl<'a, const VERTICES: u16, const LINES: u16, const TEN: u16> Model
+    for Sheet<'a, VERTICES, LINES, TEN> {
+    ghost Value = { List ℕ };
+
+    ghost view = { λ s. s.bytes.now };
+
+    ghost invariant = { λ s. Accepted (record { vertices = VERTICES; lines = LINES; ten = TEN }) s.bytes.now × (s.vertices ≡ rules.vertex_count s.bytes.now) × (s.lines ≡ rules.line_count s.bytes.now) };
+}
+
+pub type FigureSheet<'a> = Sheet<'a, 32, 64, 10>;
+
+pub type PatchSheet<'a> = Sheet<'a, 512, 2048, 20>;
+
+impl<'a, const VERTICES: u16, const LINES: u16, const TEN: u16> Sheet<'a, VERTICES, LINES, TEN> {
+    // The checks of a sheet: under 3 bytes, counts, length, filling, lines.
+    pub fn check(bytes: &'a [u8]) -> Result<Self, Fault>
+        ensures says { check_verdict TEN result ≡ sheet_verdict (record { vertices = VERTICES; lines = LINES; ten = TEN }) bytes.now }
+        ensures same { IfOk result (λ sheet. sheet ≡ bytes.now) }
+    {
+        if bytes.len() < 3 {
+            return Err(Fault::Length);
+        }
+        let c = counts(bytes);
+        if c.vertices == 0 || VERTICES < c.vertices || LINES < c.lines {
+            return Err(Fault::Counts);
+        }
+        let end = bit_length(c.vertices as usize, c.lines as usize);
+        if bytes.len() != end.div_ceil(8) {
+            return Err(Fault::Length);
+        }
+        if 0 < field(bytes, end, 8 * bytes.len() - end) {
+            return Err(Fault::Filling);
+        }
+        let start = 22 + 6 * (c.vertices as usize);
+        check_lines(c.vertices, c.lines, |j| line_at(bytes, start + 20 * j))?;
+        Ok(Sheet {
+            bytes,
+            vertices: c.vertices,
+            lines: c.lines,
+        })
     }
-    let c = counts(sheet);
-    check_lines(sheet, c.vertices, c.lines, limits.ten)
-}
 
-// The checks of a figure's sheet, but that the figure is connected.
-pub fn check_figure(sheet: &[u8]) -> Verdict
-    ensures { verdict_of result ≡ sheet_verdict figure_limits sheet.now }
-{
-    let limits = SheetLimits {
-        vertices: 32,
-        lines: 64,
-        ten: 10,
-    };
-    check(sheet, limits)
-}
+    // Its vertices; and that the sheet is accepted, which this type stands for.
+    pub fn vertices(&self) -> usize
+        ensures value { result ≡ rules.vertex_count self.now }
+        ensures accepted { Accepted (record { vertices = VERTICES; lines = LINES; ten = TEN }) self.now }
+    {
+        self.vertices as usize
+    }
 
-// The checks of a patch's sheet.
-pub fn check_patch(sheet: &[u8]) -> Verdict
-    ensures { verdict_of result ≡ sheet_verdict patch_limits sheet.now }
-{
-    let limits = SheetLimits {
-        vertices: 512,
-        lines: 2048,
-        ten: 20,
-    };
-    check(sheet, limits)
+    // Its lines, no more than it may have.
+    pub fn lines(&self) -> usize
+        ensures value { result ≡ rules.line_count self.now }
+        ensures few { result ≤ LINES }
+    {
+        self.lines as usize
+    }
+
+    // The same sheet in a variable of one's own, so that a loop that writes elsewhere need not look behind a reference at every turn.
+    pub fn own(&self) -> Self
+        ensures { result ≡ self.now }
+    {
+        Sheet {
+            bytes: self.bytes,
+            vertices: self.vertices,
+            lines: self.lines,
+        }
+    }
+
+    // The kind of vertex `i`.
+    pub fn kind(&self, i: usize) -> u16
+        requires { i < 65536 }
+        ensures { result ≡ rules.field self.now (22 + 6 * i) 6 }
+    {
+        kind_at(self.bytes, i)
+    }
+
+    // The kinds of vertex `i` and the three after it, in 24 bits.
+    pub fn four_kinds(&self, i: usize) -> u32
+        requires { i < 65536 }
+        ensures { result ≡ rules.field self.now (22 + 6 * i) 24 }
+    {
+        field(self.bytes, 22 + 6 * i, 24)
+    }
+
+    // Line j.
+    pub fn line(&self, j: usize) -> SheetLine
+        requires { j < 65536 }
+        ensures { line_of result ≡ rules.line_at self.now (22 + 6 * rules.vertex_count self.now + 20 * j) }
+    {
+        line_at(self.bytes, 22 + 6 * (self.vertices as usize) + 20 * j)
+    }
 }

@@ -3,35 +3,28 @@ ghost use Rattle.std.specs.Prelude.{◌≡◌, ◌+◌, ◌*◌, ◌/◌, ◌≤
 ghost use Rattle.rules.specs.Sheet as rules;
 ghost use Rattle.sheet.specs.Fields.{four_bytes, line_of};
 
-fn wide(byte: u8) -> u64
-    ensures { (result ≡ byte) × (result < 256) }
+// Byte `k`, or 0 past the end.
+fn byte_or_zero(bytes: &[u8], k: usize) -> u8
+    ensures { result ≡ get_or bytes.now k 0 }
 {
-    byte as u64
+    bytes.get(k).copied().unwrap_or(0)
 }
 
-fn byte_or_zero(bytes: &[u8], k: usize) -> u64
-    ensures { (result ≡ get_or bytes.now k 0) × (result < 256) }
-{
-    if k < bytes.len() {
-        return wide(bytes[k]);
-    }
-    0
-}
-
+// The four bytes from byte `k` on as one number, bytes past the end being 0.
 fn four_bytes(bytes: &[u8], k: usize) -> u64
     requires { k < 2 ^ 63 }
     ensures { (result ≡ four_bytes bytes.now k) × (result < 2 ^ 32) }
 {
+    // each by itself, so that the four are read at once
     if k + 3 < bytes.len() {
-        return wide(bytes[k]) * 16777216
-            + wide(bytes[k + 1]) * 65536
-            + wide(bytes[k + 2]) * 256
-            + wide(bytes[k + 3]);
+        return u64::from(u32::from_be_bytes([bytes[k], bytes[k + 1], bytes[k + 2], bytes[k + 3]]));
     }
-    byte_or_zero(bytes, k) * 16777216
-        + byte_or_zero(bytes, k + 1) * 65536
-        + byte_or_zero(bytes, k + 2) * 256
-        + byte_or_zero(bytes, k + 3)
+    u64::from(u32::from_be_bytes([
+        byte_or_zero(bytes, k),
+        byte_or_zero(bytes, k + 1),
+        byte_or_zero(bytes, k + 2),
+        byte_or_zero(bytes, k + 3),
+    ]))
 }
 
 // The field of `width` bits at bit `at`, bits past the end being 0.
@@ -45,15 +38,45 @@ pub fn field(bytes: &[u8], at: usize, width: usize) -> u32
 }
 
 // A line of a sheet: its type (a word that the language keeps for itself) and its two ends.
-#[derive(Clone, Copy)]
+#[derive(Clone, Copy, Debug, PartialEq, Eq)]
 pub struct SheetLine {
     pub sort: u16,
     pub first: u16,
     pub second: u16,
 }
 
+// The types of lines; document 01 has no type 3.
+#[derive(Clone, Copy, Debug, PartialEq, Eq)]
+pub enum LineType {
+    Panel,
+    Cable,
+    Normalled,
+}
+
+// A number that is no line's type.
+#[derive(Clone, Copy, Debug, PartialEq, Eq)]
+pub struct NoSuchType;
+
+impl TryFrom<u16> for LineType {
+    type Error = NoSuchType;
+
+    ghost use Rattle.std.specs.Prelude.{◌≡◌, ◌<◌, MatchResult};
+    ghost use Rattle.sheet.specs.Fields.{type_number};
+
+    ghost try_from_gives = { λ n r. MatchResult r (λ t. type_number t ≡ n) (λ _. 2 < n) };
+
+    fn try_from(number: u16) -> Result<LineType, NoSuchType> {
+        match number {
+            0 => Ok(LineType::Panel),
+            1 => Ok(LineType::Cable),
+            2 => Ok(LineType::Normalled),
+            _ => Err(NoSuchType),
+        }
+    }
+}
+
 // The counts n and m of a sheet.
-#[derive(Clone, Copy)]
+#[derive(Clone, Copy, Debug, PartialEq, Eq)]
 pub struct SheetCounts {
     pub vertices: u16,
     pub lines: u16,
@@ -72,6 +95,7 @@ pub fn line_at(bytes: &[u8], at: usize) -> SheetLine
 }
 
 // The kind of vertex `i`.
+#[tactic(auto, using(crate::proofs::Words::field_lt))]
 pub fn kind_at(bytes: &[u8], i: usize) -> u16
     requires { i < 65536 }
     ensures { result ≡ rules.field bytes.now (22 + 6 * i) 6 }
@@ -79,6 +103,8 @@ pub fn kind_at(bytes: &[u8], i: usize) -> u16
     field(bytes, 22 + 6 * i, 6) as u16
 }
 
+// The counts n and m, at the start of a sheet.
+#[tactic(auto, using(crate::proofs::Words::field_lt))]
 pub fn counts(bytes: &[u8]) -> SheetCounts
     ensures { (result.vertices ≡ rules.vertex_count bytes.now) × (result.lines ≡ rules.line_count bytes.now) }
 {

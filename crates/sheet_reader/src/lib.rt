@@ -1,90 +1,87 @@
 // The reader: what a patch sheet holds, into two lent lists.
 #![tactic(auto)]
 
-ghost use Rattle.std.specs.Prelude.{◌≡◌, ◌+◌, ◌*◌, ◌≤◌, ◌<◌, length, set};
-ghost use Rattle.rules.specs.Sheet.{kinds_held, lines_held};
+ghost use Rattle.std.specs.Prelude.{◌≡◌, ◌*◌, ◌≤◌, ◌<◌, length, set};
+ghost use Rattle.rules.specs.Sheet.{vertex_count, line_count, kinds_held, lines_held};
 ghost use Rattle.rules.specs.Calls.{over, triples, reader};
 ghost use Rattle.sheet_reader.specs.Answers.{as_read};
+ghost use Rattle.sheet.specs.Check.{verdict_of};
 
-use sheet::check::{Verdict, check_patch, lineless};
-use sheet::fields::{SheetLine, counts, kind_at, line_at};
+use sheet::check::PatchSheet;
+use sheet::fault::{Fault, Verdict, lineless};
+use sheet::fields::SheetCounts;
 
-// What the reader returns: its number, the line that the number is about, and the counts n and m.
-#[derive(Clone, Copy)]
-pub struct ReadAnswer {
-    pub number: u16,
-    pub line: u16,
-    pub vertices: u16,
-    pub lines: u16,
+// Why the reader refuses: a fault of the sheet, or a list that is too short for what it holds.
+#[derive(Clone, Copy, Debug, PartialEq, Eq)]
+pub enum Refusal {
+    Sheet(Fault),
+    Room,
 }
 
-fn read_kinds(sheet: &[u8], n: usize, kinds: &mut [u16])
-    requires { (n ≤ 1024) × (n ≤ length kinds.old) }
-    ensures { kinds.new ≡ over (kinds_held sheet.now n) kinds.old }
-{
-    let mut i = 0;
-    while i < n {
-        kinds[i] = kind_at(sheet, i);
-        i += 1;
+impl From<Fault> for Refusal {
+    ghost use Rattle.std.specs.Prelude.{◌≡◌};
+    ghost use Rattle.sheet_reader.specs.declared.Refusal.TheVariants.{Sheet};
+
+    ghost from_gives = { λ f r. r ≡ Sheet f };
+
+    fn from(fault: Fault) -> Refusal {
+        Refusal::Sheet(fault)
     }
 }
 
-// A line as three numbers from `k` on.
-fn put_line(lines: &mut [u16], k: usize, line: SheetLine)
-    requires { k + 3 ≤ length lines.old }
-    ensures { lines.new ≡ set (set (set lines.old k line.sort) (k + 1) line.first) (k + 2) line.second }
-{
-    lines[k] = line.sort;
-    lines[k + 1] = line.first;
-    lines[k + 2] = line.second;
-}
+// A refusal in document 01's numbers.
+impl From<Refusal> for Verdict {
+    ghost use Rattle.std.specs.Prelude.{◌≡◌};
+    ghost use Rattle.sheet.specs.Check.{verdict_of};
+    ghost use Rattle.sheet_reader.specs.Answers.{refusal_verdict};
 
-fn read_lines(sheet: &[u8], n: usize, m: usize, lines: &mut [u16])
-    requires { (n ≤ 1024) × (m ≤ 4096) × (3 * m ≤ length lines.old) }
-    ensures { lines.new ≡ over (triples (lines_held sheet.now n m)) lines.old }
-{
-    let mut j = 0;
-    while j < m {
-        let line = line_at(sheet, 22 + 6 * n + 20 * j);
-        put_line(lines, 3 * j, line);
-        j += 1;
+    ghost from_gives = { λ r v. verdict_of v ≡ refusal_verdict r };
+
+    fn from(refusal: Refusal) -> Verdict {
+        match refusal {
+            Refusal::Sheet(fault) => fault.verdict(20),
+            Refusal::Room => lineless(33),
+        }
     }
 }
 
-// A refusal: no counts.
-fn unread(verdict: Verdict) -> ReadAnswer
-    ensures { (result.number ≡ verdict.number) × (result.line ≡ verdict.line) × (result.vertices ≡ 0) × (result.lines ≡ 0) }
+// The kinds of a sheet's vertices, from the start of the list.
+fn read_kinds(sheet: &PatchSheet<'_>, kinds: &mut [u16])
+    requires { vertex_count sheet.now ≤ length kinds.old }
+    ensures { kinds.new ≡ over (kinds_held sheet.now (vertex_count sheet.now)) kinds.old }
 {
-    ReadAnswer {
-        number: verdict.number,
-        line: verdict.line,
-        vertices: 0,
-        lines: 0,
+    let n = sheet.vertices();
+    for (v, kind) in kinds[..n].iter_mut().enumerate() {
+        *kind = sheet.kind(v);
     }
 }
 
-pub fn read(sheet: &[u8], kinds: &mut [u16], lines: &mut [u16]) -> ReadAnswer
+// Its lines, three numbers each, from the start of the list.
+fn read_lines(sheet: &PatchSheet<'_>, lines: &mut [u16])
+    requires { 3 * line_count sheet.now ≤ length lines.old }
+    ensures { lines.new ≡ over (triples (lines_held sheet.now (vertex_count sheet.now) (line_count sheet.now))) lines.old }
+{
+    let m = sheet.lines();
+    for j in 0..m {
+        let line = sheet.line(j);
+        lines[3 * j..3 * j + 3].copy_from_slice(&[line.sort, line.first, line.second]);
+    }
+}
+
+// The counts of what was read.
+pub fn read(sheet: &[u8], kinds: &mut [u16], lines: &mut [u16]) -> Result<SheetCounts, Refusal>
     ensures { as_read result kinds.new lines.new ≡ reader sheet.now kinds.old lines.old }
 {
-    let verdict = check_patch(sheet);
-    if verdict.number != 0 {
-        return unread(verdict);
+    let checked = PatchSheet::check(sheet)?;
+    let n = checked.vertices();
+    let m = checked.lines();
+    if kinds.len() < n || lines.len() < 3 * m {
+        return Err(Refusal::Room);
     }
-    let c = counts(sheet);
-    let n = c.vertices as usize;
-    let m = c.lines as usize;
-    if kinds.len() < n {
-        return unread(lineless(33));
-    }
-    if lines.len() < 3 * m {
-        return unread(lineless(33));
-    }
-    read_kinds(sheet, n, kinds);
-    read_lines(sheet, n, m, lines);
-    ReadAnswer {
-        number: 0,
-        line: 65535,
-        vertices: c.vertices,
-        lines: c.lines,
-    }
+    read_kinds(&checked, kinds);
+    read_lines(&checked, lines);
+    Ok(SheetCounts {
+        vertices: n as u16,
+        lines: m as u16,
+    })
 }

@@ -2,7 +2,7 @@
 #![tactic(auto)]
 
 use listing::text_of;
-use refusal::say_of_sheet;
+use refusal::{SheetRefused, say};
 use std::io;
 use streams::read_full;
 
@@ -10,11 +10,11 @@ fn main(rt: HostRuntime) -> io::Result<()> {
     let mut sheet = [0u8; 5508];
     let mut text = [0u8; 49152];
     let n = read_full(&mut rt.stdin(), &mut sheet);
-    let made = text_of(&sheet[..n], &mut text);
-    if made.number != 0 {
-        say_of_sheet(&rt, made.line, made.number);
-        return Ok(());
+    match text_of(&sheet[..n], &mut text) {
+        Ok(count) => rt.write_all(&text[..count]),
+        Err(fault) => {
+            say(&rt, SheetRefused(fault));
+            Ok(())
+        }
     }
-    let count = made.count;
-    rt.write_all(&text[..count])
 }

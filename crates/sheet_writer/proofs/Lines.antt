@@ -75,7 +75,10 @@ lines_by (t ∷ (a ∷ (b ∷ r))) =
     next : (j : ℕ) → line_in (t ∷ a ∷ b ∷ r) (suc j) ≡ line_in r j
     next j i = record { type = at (3 * j) (3 * suc j) (omega arith) i; first = at (3 * j + 1) (3 * suc j + 1) (omega arith) i; second = at (3 * j + 2) (3 * suc j + 2) (omega arith) i }
 
--- a line of the list is among its lines
+-- line j of the list is its j-th line, and is among its lines
+pub line_at : (ls : List ℕ) (j : ℕ) (d : Line) → j < length ls / 3 → get_or (lines_of ls) j d ≡ line_in ls j
+line_at ls j d h = rw (lines_by ls) (get_or_first (line_in ls) d (length ls / 3) j h)
+
 pub line_among : (ls : List ℕ) (j : ℕ) → j < length ls / 3 → Memᴰ (line_in ls j) (lines_of ls)
 line_among ls j h =
     let g = line_in ls in

@@ -1,19 +1,21 @@
 -- What the writer returns, by the first of its checks to fail, and what it has put down once the last byte is filled.
 use Prim.Native.Nat.{ℕ, zero, suc, ◌+◌, ◌*◌, ◌-◌, ◌/◌, ◌%◌, ◌^◌, ◌≤◌, ◌<◌}
 use mathlib.Core.Path.{◌≡◌, refl, ap, ap₂, sym, ◌∙◌}
-use mathlib.Core.Logic.{⊎_elim}
-use mathlib.Core.Bool.{true, false, and-false}
+use mathlib.Core.Logic.{⊎_elim, inl, inr}
+use mathlib.Core.Bool.{true, false}
 use mathlib.Core.List.{List, [], ◌∷◌, ◌++◌}
 use mathlib.Core.Option.{none}
 use native.Mathlib.Nat.{zero-div}
 use native.Mathlib.Omega.{arith}
 use borrow.Author.Tests.{le-leb, lt-leb, eq-eqb, ne_eqb}
 use lib.Dec.{eqb, leb}
+use Rattle.std.specs.Prelude.{Result}
+use Rattle.std.specs.Prelude.{Ok, Err, IsErr, IsErrAnd}
 use lib.ListN.{length, get_or, drop}
 use Rattle.laws.specs.Lists.{all}
-use Rattle.laws.proofs.Lists.{map_upto, length_map_upto, get_or_in}
+use Rattle.laws.proofs.Lists.{split, map_upto, length_map_upto, get_or_in}
 use Rattle.rules.specs.Sheet.{Sheet, word, bits, kind_bits, line_bits, layout, packed, bit_length, byte_length, written}
-use Rattle.rules.specs.Checks.{Verdict, no_line, lineless, Check, verdict, patch_limits, counted, line_checks}
+use Rattle.rules.specs.Checks.{no_line, lineless, Check, verdict, patch_limits, counted, line_checks}
 use Rattle.rules.specs.Calls.{over, lines_of, sheet_of, writer_checks, writer_refusals, WriterHanded, writer}
 use Rattle.rules.proofs.Verdicts.{checked_fails, from_11, verdict_passes, verdict_fails, verdict_none, verdict_cons, verdict_first, verdict_rest}
 use Rattle.rules.proofs.Accepted.{counted_iff, lines_positive}
@@ -21,13 +23,27 @@ use Rattle.rules.proofs.Fields.{word_same, length_bits}
 use Rattle.rules.proofs.RoundTrip.{length_layout}
 use Rattle.rules.proofs.ReadWrite.{length_lines_of, writer_taken, writer_either}
 use Rattle.sheet_writer.specs.declared.pen.Pen.{Pen}
-use Rattle.sheet_writer.specs.declared.WriteAnswer.{WriteAnswer}
-use Rattle.sheet_writer.specs.Answers.{as_written}
+use Rattle.sheet_writer.specs.declared.Refusal.{Refusal}
+use Rattle.sheet_writer.specs.declared.Refusal.TheVariants.{Uneven, Counts, Kind, At, Room}
+use Rattle.sheet_writer.specs.Answers.{refusal_verdict, as_written}
 use Rattle.sheet_writer.specs.Pen.{Penned, Able, Added}
 use Rattle.sheet_writer.specs.Writing.{line_in, KindsFit, LinesFit, list_checks}
 use Rattle.sheet_reader.proofs.Stores.{over_at}
 use Rattle.sheet_writer.proofs.Pens.{added_then}
 use Rattle.sheet_writer.proofs.Lines.{line_among}
+
+-- the refusal that `?` returns
+pub told : {A : Type 0} {q : Refusal} (r : Result A Refusal) → IsErr r × IsErrAnd r (λ x. x ≡ q) → r ≡ Err q
+told (Ok x) h = let z : false ≡ true = h.0 in cc
+told (Err x) h = ap Err h.1
+
+-- a refusal has a number
+pub refusal_number : (r : Refusal) → (refusal_verdict r).number ≡ 0 → ⊥
+refusal_number Uneven z = omega arith
+refusal_number Counts z = omega arith
+refusal_number Kind z = omega arith
+refusal_number (At b) z = omega arith
+refusal_number Room z = omega arith
 
 -- the checks on the two lists, one after the other
 module _ (ks ls : List ℕ) where
@@ -47,17 +63,11 @@ module _ (ks ls : List ℕ) where
     past_threes : verdict (list_checks ks ls) ≡ verdict (counts ∷ small ∷ line_checks 20 (length ks) 0 none (lines_of ls))
     past_threes = verdict_passes threes _ (eq-eqb (length ls % 3) 0 a)
 
-    lists_uncounted : counted patch_limits (length ks) (length ls / 3) ≡ false → verdict (list_checks ks ls) ≡ lineless 22
-    lists_uncounted e = past_threes ∙ verdict_fails counts _ e
-
-    pub lists_none : length ks ≡ 0 → verdict (list_checks ks ls) ≡ lineless 22
-    lists_none e = lists_uncounted (rw e)
-
-    pub lists_vertices : 512 < length ks → verdict (list_checks ks ls) ≡ lineless 22
-    lists_vertices h = lists_uncounted (rw (lt-leb (length ks) 512 h, and-false))
-
-    pub lists_lines : 2_048 < length ls / 3 → verdict (list_checks ks ls) ≡ lineless 22
-    lists_lines h = lists_uncounted (rw (lt-leb (length ls / 3) 2_048 h, and-false, and-false))
+    pub lists_uncounted : (0 < length ks → length ks ≤ 512 → length ls / 3 ≤ 2_048 → ⊥) → verdict (list_checks ks ls) ≡ lineless 22
+    lists_uncounted h = past_threes ∙ elim (split (counted patch_limits (length ks) (length ls / 3))) [
+      | inl e ↦ let t = (counted_iff patch_limits (length ks) (length ls / 3)).0 e in absurd (h (omega arith) (omega arith) (omega arith))
+      | inr e ↦ verdict_fails counts _ e
+    ]
 
     module _ (b : (length ks ≡ 0 → ⊥) × (length ks ≤ 512) × (length ls / 3 ≤ 2_048)) where
       lists_counted : counted patch_limits (length ks) (length ls / 3) ≡ true
@@ -73,8 +83,9 @@ module _ (ks ls : List ℕ) where
       lists_drawn e = past_counts ∙ verdict_passes small _ e
 
   -- lists that pass are within the limits
-  pub lists_small : (verdict (list_checks ks ls)).number ≡ 0 → (length ks ≤ 512) × (length ls / 3 ≤ 2_048)
-  lists_small z =
+  pub lists_small : verdict (list_checks ks ls) ≡ lineless 0 → (length ks ≤ 512) × (length ls / 3 ≤ 2_048)
+  lists_small e =
+      let z = ap (λ v. v.number) e in
       let a = (verdict_cons threes _ (omega arith)).0 z in
       let b = (verdict_cons counts _ (omega arith)).0 a.1 in
       let t = (counted_iff patch_limits (length ks) (length ls / 3)).0 b.0 in
@@ -85,21 +96,20 @@ module _ (ks ls bytes : List ℕ) where
   abbrev room : Check
   room = (leb (byte_length (length ks) (length ls / 3)) (length bytes), lineless 33)
 
-  -- an answer with no count
-  module _ (r : WriteAnswer) (v : Verdict) (h : (r.number ≡ v.number) × (r.line ≡ v.line) × (r.count ≡ 0)) where
-    refused : verdict (writer_checks ks ls bytes) ≡ v → (v.number ≡ 0 → ⊥) → as_written r bytes ≡ writer ks ls bytes
-    unfolding writer
-    refused e f = (λ i. record { number = h.0 i; line = h.1 i; count = h.2 i; bytes = bytes }) ∙ sym (rw e (checked_fails v _ _ f))
+  -- a refusal, with no count and the bytes as they were
+  refused : (r : Refusal) → verdict (writer_checks ks ls bytes) ≡ refusal_verdict r → as_written (Err r) bytes ≡ writer ks ls bytes
+  unfolding writer
+  refused r e = sym (rw e (checked_fails (refusal_verdict r) _ _ (refusal_number r)))
 
-    pub by_lists : v ≡ verdict (list_checks ks ls) → (v.number ≡ 0 → ⊥) → as_written r bytes ≡ writer ks ls bytes
-    by_lists e f = refused (verdict_first (list_checks ks ls) (room ∷ []) (λ z. f (ap (λ w. w.number) e ∙ z)) ∙ sym e) f
+  pub by_lists : (r : Refusal) → refusal_verdict r ≡ verdict (list_checks ks ls) → as_written (Err r) bytes ≡ writer ks ls bytes
+  by_lists r e = refused r (verdict_first (list_checks ks ls) (room ∷ []) (λ z. refusal_number r (ap (λ w. w.number) e ∙ z)) ∙ sym e)
 
-  module _ (good : (verdict (list_checks ks ls)).number ≡ 0) where
+  module _ (good : verdict (list_checks ks ls) ≡ lineless 0) where
     roomed : verdict (writer_checks ks ls bytes) ≡ verdict (room ∷ [])
-    roomed = verdict_rest (list_checks ks ls) (room ∷ []) (omega arith, (omega arith, (omega arith, lines_positive 20 (length ks) 0 none (lines_of ls)))) good
+    roomed = verdict_rest (list_checks ks ls) (room ∷ []) (omega arith, (omega arith, (omega arith, lines_positive 20 (length ks) 0 none (lines_of ls)))) (ap (λ v. v.number) good)
 
-    pub by_room : (r : WriteAnswer) (v : Verdict) → v ≡ lineless 33 → (r.number ≡ v.number) × (r.line ≡ v.line) × (r.count ≡ 0) → length bytes < byte_length (length ks) (length ls / 3) → as_written r bytes ≡ writer ks ls bytes
-    by_room r v w h l = refused r v h (roomed ∙ verdict_fails room [] (lt-leb (byte_length (length ks) (length ls / 3)) (length bytes) l) ∙ sym w) (λ z. omega (arith, ap (λ x. x.number) w))
+    pub by_room : length bytes < byte_length (length ks) (length ls / 3) → as_written (Err Room) bytes ≡ writer ks ls bytes
+    by_room l = refused Room (roomed ∙ verdict_fails room [] (lt-leb (byte_length (length ks) (length ls / 3)) (length bytes) l))
 
     module _ (l : byte_length (length ks) (length ls / 3) ≤ length bytes) where
       handed : WriterHanded ks ls bytes
@@ -113,8 +123,8 @@ module _ (ks ls bytes : List ℕ) where
       pub lines_fit : LinesFit ls
       lines_fit j h = let t = handed.sheet.drawn.fit (line_in ls j) (line_among ls j h) in omega (arith, t, handed.sheet.vertices)
 
-      pub by_bytes : (r : WriteAnswer) (bytes' : List ℕ) → r.number ≡ 0 → r.line ≡ no_line → r.count ≡ byte_length (length ks) (length ls / 3) → bytes' ≡ over (written (sheet_of ks ls)) bytes → as_written r bytes' ≡ writer ks ls bytes
-      by_bytes r bytes' z o e f = (λ i. record { number = z i; line = o i; count = e i; bytes = f i }) ∙ sym (writer_taken ks ls bytes handed)
+      pub by_bytes : (count : ℕ) (bytes' : List ℕ) → count ≡ byte_length (length ks) (length ls / 3) → bytes' ≡ over (written (sheet_of ks ls)) bytes → as_written (Ok count) bytes' ≡ writer ks ls bytes
+      by_bytes count bytes' e f = (λ i. record { number = 0; line = no_line; count = e i; bytes = f i }) ∙ sym (writer_taken ks ls bytes handed)
 
 -- a pen before the first bit
 abbrev pub start : Pen

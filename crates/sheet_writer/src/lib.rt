@@ -7,24 +7,57 @@ ghost use Rattle.laws.specs.Lists.{all};
 ghost use Rattle.rules.specs.Sheet.{kind_bits, line_bits, byte_length, written};
 ghost use Rattle.rules.specs.Checks.{verdict, line_checks};
 ghost use Rattle.rules.specs.Calls.{over, lines_of, sheet_of, writer};
-ghost use Rattle.sheet.specs.Check.{verdict_of};
+ghost use Rattle.sheet.specs.Check.{lines_verdict};
 ghost use Rattle.sheet.specs.Fields.{line_of};
-ghost use Rattle.sheet_writer.specs.Answers.{as_written};
+ghost use Rattle.sheet_writer.specs.Answers.{as_written, check_verdict};
 ghost use Rattle.sheet_writer.specs.Pen.{Able, Added};
 ghost use Rattle.sheet_writer.specs.Writing.{line_in, KindsFit, LinesFit, list_checks};
 
 mod pen;
 
 use crate::pen::{Pen, put};
-use sheet::check::{Verdict, line_number, lineless, no_line};
+use sheet::check::check_lines;
+use sheet::fault::{BadLine, Verdict, lineless};
 use sheet::fields::{SheetLine, bit_length};
 
-// What the writer returns: its number, the line that the number is about, and the count of bytes.
-#[derive(Clone, Copy)]
-pub struct WriteAnswer {
-    pub number: u16,
-    pub line: u16,
-    pub count: usize,
+// Why the writer refuses: a line list that is no whole number of lines, counts outside a patch's limits, a kind above 63, a line, or too few bytes.
+#[derive(Clone, Copy, Debug, PartialEq, Eq)]
+pub enum Refusal {
+    Uneven,
+    Counts,
+    Kind,
+    At(BadLine),
+    Room,
+}
+
+impl From<BadLine> for Refusal {
+    ghost use Rattle.std.specs.Prelude.{◌≡◌};
+    ghost use Rattle.sheet_writer.specs.declared.Refusal.TheVariants.{At};
+
+    ghost from_gives = { λ b r. r ≡ At b };
+
+    fn from(bad: BadLine) -> Refusal {
+        Refusal::At(bad)
+    }
+}
+
+// A refusal in document 01's numbers.
+impl From<Refusal> for Verdict {
+    ghost use Rattle.std.specs.Prelude.{◌≡◌};
+    ghost use Rattle.sheet.specs.Check.{verdict_of};
+    ghost use Rattle.sheet_writer.specs.Answers.{refusal_verdict};
+
+    ghost from_gives = { λ r v. verdict_of v ≡ refusal_verdict r };
+
+    fn from(refusal: Refusal) -> Verdict {
+        match refusal {
+            Refusal::Uneven => lineless(34),
+            Refusal::Counts => lineless(22),
+            Refusal::Kind => lineless(35),
+            Refusal::At(bad) => bad.verdict(20),
+            Refusal::Room => lineless(33),
+        }
+    }
 }
 
 fn line_in(lines: &[u16], j: usize) -> SheetLine
@@ -41,69 +74,45 @@ fn line_in(lines: &[u16], j: usize) -> SheetLine
 fn kinds_fit(kinds: &[u16]) -> bool
     ensures { result ≡ all (λ k. leb k 63) kinds.now }
 {
-    let mut i = 0;
-    while i < kinds.len() {
-        if 63 < kinds[i] {
-            return false;
-        }
-        i += 1;
-    }
-    true
+    kinds.iter().all(|kind| *kind <= 63)
 }
 
-fn check_line_list(lines: &[u16], n: u16) -> Verdict
+// The checks of the lines of a list, among n vertices.
+fn check_line_list(lines: &[u16], n: u16) -> Result<(), BadLine>
     requires { length lines.now / 3 ≤ 2048 }
-    ensures { verdict_of result ≡ verdict (line_checks 20 n 0 none (lines_of lines.now)) }
+    ensures { lines_verdict 20 result ≡ verdict (line_checks 20 n 0 none (lines_of lines.now)) }
 {
-    let m = lines.len() / 3;
-    let mut before = no_line();
-    let mut j = 0;
-    while j < m {
-        let line = line_in(lines, j);
-        let number = line_number(before, line, n, 20);
-        if number != 0 {
-            let at = j as u16;
-            return Verdict { number, line: at };
-        }
-        before = line;
-        j += 1;
-    }
-    lineless(0)
+    check_lines(n, (lines.len() / 3) as u16, |j| line_in(lines, j))
 }
 
 // The writer's checks before the one for room.
-fn check_lists(kinds: &[u16], lines: &[u16]) -> Verdict
-    ensures { verdict_of result ≡ verdict (list_checks kinds.now lines.now) }
+fn check_lists(kinds: &[u16], lines: &[u16]) -> Result<(), Refusal>
+    ensures { check_verdict result ≡ verdict (list_checks kinds.now lines.now) }
 {
     if lines.len() % 3 != 0 {
-        return lineless(34);
+        return Err(Refusal::Uneven);
     }
-    if kinds.len() == 0 {
-        return lineless(22);
-    }
-    if 512 < kinds.len() {
-        return lineless(22);
-    }
-    if 2048 < lines.len() / 3 {
-        return lineless(22);
+    let n = kinds.len();
+    let m = lines.len() / 3;
+    if n == 0 || 512 < n || 2048 < m {
+        return Err(Refusal::Counts);
     }
     if !kinds_fit(kinds) {
-        return lineless(35);
+        return Err(Refusal::Kind);
     }
-    check_line_list(lines, kinds.len() as u16)
+    check_line_list(lines, n as u16)?;
+    Ok(())
 }
 
 fn write_kinds(kinds: &[u16], bytes: &mut [u8], pen: Pen) -> Pen
     requires { (pen.count < 8) × KindsFit kinds.now × Able (6 * length kinds.now) pen bytes.old }
     ensures { (result.count < 8) × Added (kind_bits kinds.now) pen bytes.old result bytes.new }
 {
-    let mut next = pen;
-    let mut i = 0;
-    while i < kinds.len() {
-        next = put(bytes, next, kinds[i] as u32, 6);
-        i += 1;
+    let mut pen = pen;
+    for kind in kinds {
+        pen = put(bytes, pen, u32::from(*kind), 6);
     }
-    next
+    pen
 }
 
 // The 20 bits of a line as one number.
@@ -111,22 +120,18 @@ fn line_word(line: SheetLine) -> u32
     requires { (line.sort < 4) × (line.first < 512) × (line.second < 512) }
     ensures { (result ≡ line.sort * 262144 + line.first * 512 + line.second) × (result < 2 ^ 20) }
 {
-    (line.sort as u32) * 262144 + (line.first as u32) * 512 + (line.second as u32)
+    u32::from(line.sort) * 262144 + u32::from(line.first) * 512 + u32::from(line.second)
 }
 
 fn write_lines(lines: &[u16], bytes: &mut [u8], pen: Pen) -> Pen
     requires { (pen.count < 8) × LinesFit lines.now × Able (20 * (length lines.now / 3)) pen bytes.old }
     ensures { (result.count < 8) × Added (line_bits (lines_of lines.now)) pen bytes.old result bytes.new }
 {
-    let m = lines.len() / 3;
-    let mut next = pen;
-    let mut j = 0;
-    while j < m {
-        let word = line_word(line_in(lines, j));
-        next = put(bytes, next, word, 20);
-        j += 1;
+    let mut pen = pen;
+    for j in 0..lines.len() / 3 {
+        pen = put(bytes, pen, line_word(line_in(lines, j)), 20);
     }
-    next
+    pen
 }
 
 // The counts, the kinds, the lines, and zero bits that fill the last byte.
@@ -146,32 +151,15 @@ fn write_sheet(kinds: &[u16], lines: &[u16], bytes: &mut [u8])
     put(bytes, ends, 0, (8 - ends.count) % 8);
 }
 
-// A refusal: no count.
-fn unwritten(verdict: Verdict) -> WriteAnswer
-    ensures { (result.number ≡ verdict.number) × (result.line ≡ verdict.line) × (result.count ≡ 0) }
-{
-    WriteAnswer {
-        number: verdict.number,
-        line: verdict.line,
-        count: 0,
-    }
-}
-
-pub fn write(kinds: &[u16], lines: &[u16], bytes: &mut [u8]) -> WriteAnswer
+// The count of the sheet's bytes.
+pub fn write(kinds: &[u16], lines: &[u16], bytes: &mut [u8]) -> Result<usize, Refusal>
     ensures { as_written result bytes.new ≡ writer kinds.now lines.now bytes.old }
 {
-    let verdict = check_lists(kinds, lines);
-    if verdict.number != 0 {
-        return unwritten(verdict);
-    }
-    let count = (bit_length(kinds.len(), lines.len() / 3) + 7) / 8;
+    check_lists(kinds, lines)?;
+    let count = bit_length(kinds.len(), lines.len() / 3).div_ceil(8);
     if bytes.len() < count {
-        return unwritten(lineless(33));
+        return Err(Refusal::Room);
     }
     write_sheet(kinds, lines, bytes);
-    WriteAnswer {
-        number: 0,
-        line: 65535,
-        count,
-    }
+    Ok(count)
 }

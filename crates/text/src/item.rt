@@ -1,113 +1,118 @@
 // One line of text: an item, nothing, or what is wrong with it.
-use crate::token::{Token, ends, is, number, word};
+use crate::fault::TextFault;
+use sheet::fields::LineType;
 
-// A vertex with its number and kind; a line with its type and ends; an empty line or a comment; a number of docs/TEXT.md for what is wrong.
-#[derive(Clone, Copy)]
+// A vertex with its number and kind, or a line with its type and ends.
+#[derive(Clone, Copy, Debug, PartialEq, Eq)]
 pub(crate) enum Item {
     Vertex(u16, u16),
-    Line(u16, u16, u16),
-    Nothing,
-    Wrong(u16),
+    Line(LineType, u16, u16),
 }
 
-// The type that a word names, or 3.
-fn line_type(value: u64) -> u16 {
-    if is(value, b"panel") {
-        return 0;
+impl Item {
+    pub(crate) fn is_vertex(self) -> bool {
+        matches!(self, Item::Vertex(..))
     }
-    if is(value, b"cable") {
-        return 1;
+
+    pub(crate) fn is_line(self) -> bool {
+        matches!(self, Item::Line(..))
     }
-    if is(value, b"normalled") {
-        return 2;
-    }
-    3
 }
 
-// The lowest kind that bears a word, or 64.
-fn kinds_from(value: u64) -> u64 {
-    if is(value, b"module") {
-        return 0;
-    }
-    if is(value, b"output") {
-        return 16;
-    }
-    if is(value, b"input") {
-        return 32;
-    }
-    if is(value, b"blank") {
-        return 60;
-    }
-    64
+// The words for kinds.
+#[derive(Clone, Copy, Debug, PartialEq, Eq)]
+enum KindWord {
+    Module,
+    Output,
+    Input,
+    Blank,
 }
 
-// The lowest kind that bears the word of this one. Kinds above 63 have no word, and the writer refuses them.
-fn first_alike(kind: u64) -> u64 {
-    if kind < 16 {
-        return 0;
-    }
-    if kind < 32 {
-        return 16;
-    }
-    if kind < 60 {
-        return 32;
-    }
-    60
-}
-
-// What follows a vertex's number: the word for its kind, and the kind.
-fn vertex(text: &[u8], place: Token) -> Item {
-    if 65535 < place.value {
-        return Item::Wrong(72);
-    }
-    let named = word(text, place.next);
-    let lowest = kinds_from(named.value);
-    if lowest == 64 {
-        return Item::Wrong(73);
-    }
-    let kind = number(text, named.next);
-    if 65535 < kind.value {
-        return Item::Wrong(72);
-    }
-    if kind.value < 64 {
-        if first_alike(kind.value) != lowest {
-            return Item::Wrong(74);
+impl KindWord {
+    // The word that letters spell.
+    fn named(word: &[u8]) -> Option<KindWord> {
+        match word {
+            b"module" => Some(KindWord::Module),
+            b"output" => Some(KindWord::Output),
+            b"input" => Some(KindWord::Input),
+            b"blank" => Some(KindWord::Blank),
+            _ => None,
         }
     }
-    if !ends(text, kind.next) {
-        return Item::Wrong(75);
+
+    // The word of a kind. Kinds above 63 have none, and the writer refuses them.
+    fn of(kind: u16) -> Option<KindWord> {
+        match kind {
+            0..=15 => Some(KindWord::Module),
+            16..=31 => Some(KindWord::Output),
+            32..=59 => Some(KindWord::Input),
+            60..=63 => Some(KindWord::Blank),
+            _ => None,
+        }
     }
-    Item::Vertex(place.value as u16, kind.value as u16)
 }
 
-// What follows a line's first end: the second.
-fn line(text: &[u8], sort: u16, first: Token) -> Item {
-    if 65535 < first.value {
-        return Item::Wrong(72);
+// The type that a word names.
+fn type_named(word: &[u8]) -> Option<LineType> {
+    match word {
+        b"panel" => Some(LineType::Panel),
+        b"cable" => Some(LineType::Cable),
+        b"normalled" => Some(LineType::Normalled),
+        _ => None,
     }
-    let second = number(text, first.next);
-    if 65535 < second.value {
-        return Item::Wrong(72);
-    }
-    if !ends(text, second.next) {
-        return Item::Wrong(75);
-    }
-    Item::Line(sort, first.value as u16, second.value as u16)
 }
 
-// The item of the line that begins at `at`.
-pub(crate) fn item_at(text: &[u8], at: usize) -> Item {
-    if ends(text, at) {
-        return Item::Nothing;
+// A number with one digit more, where it stays within 65,535.
+fn grown(number: u16, digit: u8) -> Option<u16> {
+    if !digit.is_ascii_digit() {
+        return None;
     }
-    let named = word(text, at);
-    let first = number(text, named.next);
-    if is(named.value, b"vertex") {
-        return vertex(text, first);
+    number.checked_mul(10)?.checked_add(u16::from(digit - b'0'))
+}
+
+// The number that a word is: digits alone.
+fn number(word: Option<&[u8]>) -> Result<u16, TextFault> {
+    word.ok_or(TextFault::Number)?
+        .iter()
+        .try_fold(0, |number, digit| grown(number, *digit))
+        .ok_or(TextFault::Number)
+}
+
+// Whether a byte stands between words: space, tab, and what ends a line.
+fn is_blank(byte: u8) -> bool {
+    matches!(byte, b' ' | b'\t' | b'\r' | b'\n')
+}
+
+// The item of a line, if it has one.
+pub(crate) fn item_of(line: &[u8]) -> Result<Option<Item>, TextFault> {
+    let end = line
+        .iter()
+        .position(|byte| *byte == b'#')
+        .unwrap_or(line.len());
+    let mut words = line[..end]
+        .split(|byte| is_blank(*byte))
+        .filter(|word| !word.is_empty());
+    let Some(head) = words.next() else {
+        return Ok(None);
+    };
+    let found = if head == b"vertex".as_slice() {
+        let place = number(words.next())?;
+        let named = words
+            .next()
+            .and_then(KindWord::named)
+            .ok_or(TextFault::Word)?;
+        let kind = number(words.next())?;
+        if KindWord::of(kind).is_some_and(|word| word != named) {
+            return Err(TextFault::Misfit);
+        }
+        Item::Vertex(place, kind)
+    } else {
+        let sort = type_named(head).ok_or(TextFault::Item)?;
+        let first = number(words.next())?;
+        Item::Line(sort, first, number(words.next())?)
+    };
+    if words.next().is_some() {
+        return Err(TextFault::More);
     }
-    let sort = line_type(named.value);
-    if sort == 3 {
-        return Item::Wrong(71);
-    }
-    line(text, sort, first)
+    Ok(Some(found))
 }

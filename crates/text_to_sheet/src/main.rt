@@ -1,7 +1,7 @@
 // Text on standard input, its sheet's bytes on standard output; or one message on standard error and no output.
 #![tactic(auto)]
 
-use refusal::say_line;
+use refusal::{TextRefused, say};
 use std::io;
 use streams::read_full;
 use text::sheet_of::sheet_of;
@@ -10,11 +10,11 @@ fn main(rt: HostRuntime) -> io::Result<()> {
     let mut text = [0u8; 131073];
     let mut bytes = [0u8; 5507];
     let n = read_full(&mut rt.stdin(), &mut text);
-    let made = sheet_of(&text[..n], &mut bytes);
-    if made.number != 0 {
-        say_line(&rt, made.line, made.number);
-        return Ok(());
+    match sheet_of(&text[..n], &mut bytes) {
+        Ok(count) => rt.write_all(&bytes[..count]),
+        Err(refusal) => {
+            say(&rt, TextRefused(refusal));
+            Ok(())
+        }
     }
-    let count = made.count;
-    rt.write_all(&bytes[..count])
 }

@@ -4,35 +4,17 @@
 
 mod trial;
 
-use crate::trial::{Tally, trial};
-use draws::{below, next};
+use crate::trial::Tally;
+use draws::below;
+use draws::digest::Digest;
 use std::io;
 
 // Small sheets of every density, one in eight of any size.
-fn one(tally: Tally, i: u32) -> Tally {
-    let a = next(tally.seed);
-    let b = next(a);
-    let mut from = tally;
-    from.seed = b;
-    let gap = below(b, 40) + 1;
-    if i % 8 == 0 {
-        return trial(from, below(a, 512) + 1, gap);
-    }
-    trial(from, below(a, 40) + 1, gap)
-}
-
-fn turns(start: Tally, count: u32) -> Tally {
-    let mut tally = start;
-    let mut i = 0;
-    while i < count {
-        tally = one(tally, i);
-        i += 1;
-    }
-    tally
-}
-
-fn print(rt: &impl Print, label: &str, n: u64) -> io::Result<()> {
-    println!(rt; "{label}{n}")
+fn one(tally: &mut Tally, i: u32) {
+    let a = tally.draw();
+    let b = tally.draw();
+    let most = if i % 8 == 0 { 512 } else { 40 };
+    tally.trial(below(a, most) + 1, below(b, 40) + 1);
 }
 
 fn main(rt: HostRuntime) -> io::Result<()> {
@@ -41,14 +23,16 @@ fn main(rt: HostRuntime) -> io::Result<()> {
         sheets: 0,
         texts: 0,
         refused: 0,
-        digest: 1,
+        digest: Digest(1),
     };
-    print(&rt, "seed ", tally.seed as u64)?;
-    tally = turns(tally, 160);
+    println!(rt; "seed {}", tally.seed)?;
+    for i in 0..160 {
+        one(&mut tally, i);
+    }
     // the largest sheet: 512 vertices, 2,048 lines
-    tally = trial(tally, 512, 2);
-    print(&rt, "sheets the same ", tally.sheets as u64)?;
-    print(&rt, "texts the same ", tally.texts as u64)?;
-    print(&rt, "damaged texts refused ", tally.refused as u64)?;
-    print(&rt, "digest ", tally.digest)
+    tally.trial(512, 2);
+    println!(rt; "sheets the same {}", tally.sheets)?;
+    println!(rt; "texts the same {}", tally.texts)?;
+    println!(rt; "damaged texts refused {}", tally.refused)?;
+    println!(rt; "digest {}", tally.digest.0)
 }

@@ -1,31 +1,29 @@
 -- `check_rows`: refused by the checks before the rows', or what the walk over the rows says. Assumes nothing.
-use native.Mathlib.Nat.{le_refl}
-use mathlib.Core.Path.{refl, sym, ◌∙◌}
-use Rattle.rules.proofs.Accepted.{patch_size}
-use Rattle.rules.specs.RowCheck.{tested}
 use Rattle.rules.specs.Calls.{patch_of}
-use Rattle.sheet.proofs.Verdicts.{passes}
-use Rattle.patch_loader.proofs.Loaded.{loaded_holds}
-use Rattle.row_check.proofs.Before.{figure_passes, both_accepted}
+use Rattle.row_check.proofs.Before.{by_figure, by_patch, by_length, by_rows, refusal_is}
+use Rattle.row_check.proofs.Loaded.{tables_hold}
 use Rattle.row_check.proofs.check_rows.Goals as goal
 
-pub load-requires : goal.load-requires
-load-requires c =
-    let F = c.check_and_load-checked.ensures in
-    let passed = passes (c.check_before-verdict.ensures c.args.figure.now F.answers (λ z. (F.holds z).lined.sized)) c.if-verdict-ne0.false in
-    ((both_accepted _ _ _ passed).1, le_refl 5_122)
+pub returns-in_err-sheet : goal.returns-in_err-sheet
+returns-in_err-sheet c = rw (refusal_is _ c.from_residual.ensures) (by_figure _ _ _ _ c.in_err-sheet.ensures.answers)
 
-pub test_rows-tested-requires : goal.test_rows-tested-requires
-test_rows-tested-requires c =
-    let F = c.check_and_load-checked.ensures in
-    let passed = passes (c.check_before-verdict.ensures c.args.figure.now F.answers (λ z. (F.holds z).lined.sized)) c.if-verdict-ne0.false in
-    let accepted = both_accepted _ _ _ passed in
-    let p = c.args.patch.now in
-    (accepted.0, F.holds (figure_passes _ _ _ F.answers passed), (patch_of p, loaded_holds p accepted.1 _ 5_122 (le_refl 5_122) c.load.ensures, patch_size p ∙ sym c.counts-c.ensures.0))
+pub returns-in_err-patch : goal.returns-in_err-patch
+returns-in_err-patch c = rw (refusal_is _ c.from_residual-in_err-patch.ensures) (by_patch _ _ _ c.in_ok-sheet.ensures.answers _ c.in_err-patch.ensures.says)
+
+pub returns-then-rows-arrays-ne0 : goal.returns-then-rows-arrays-ne0
+returns-then-rows-arrays-ne0 c = by_length _ _ _ c.in_ok-sheet.ensures.answers c.in_ok-patch.ensures.says c.in_ok-sheet.ensures.loaded.1.lined.sized c.if-rows-arrays-ne0.true
+
+pub test_rows-requires-clause-patch : goal.test_rows-requires-clause-patch
+test_rows-requires-clause-patch c = let h = tables_hold c.load.ensures.holds c.in_ok-patch.ensures.same c.new-tables.ensures c.vertices.ensures.value in (patch_of c.args.patch.now, h.0, h.1)
+
+pub returns-in_err-test_rows : goal.returns-in_err-test_rows
+returns-in_err-test_rows c =
+    let h = tables_hold c.load.ensures.holds c.in_ok-patch.ensures.same c.new-tables.ensures c.vertices.ensures.value in
+    let figure = c.in_ok-sheet.ensures in
+    rw (refusal_is _ c.from_residual-in_err-test_rows.ensures) (by_rows _ _ _ figure.answers c.in_ok-patch.ensures.says figure.loaded.1.lined.sized c.if-rows-arrays-ne0.false figure.loaded.0 (c.in_err-test_rows.ensures _ h.0 h.1))
 
 pub returns : goal.returns
 returns c =
-    let F = c.check_and_load-checked.ensures in
-    let passed = passes (c.check_before-verdict.ensures c.args.figure.now F.answers (λ z. (F.holds z).lined.sized)) c.if-verdict-ne0.false in
-    let p = c.args.patch.now in
-    tested passed refl (c.test_rows-tested.ensures (patch_of p) (loaded_holds p (both_accepted _ _ _ passed).1 _ 5_122 (le_refl 5_122) c.load.ensures) (patch_size p ∙ sym c.counts-c.ensures.0))
+    let h = tables_hold c.load.ensures.holds c.in_ok-patch.ensures.same c.new-tables.ensures c.vertices.ensures.value in
+    let figure = c.in_ok-sheet.ensures in
+    by_rows _ _ _ figure.answers c.in_ok-patch.ensures.says figure.loaded.1.lined.sized c.if-rows-arrays-ne0.false figure.loaded.0 (c.in_ok-test_rows.ensures _ h.0 h.1)

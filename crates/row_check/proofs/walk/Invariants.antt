@@ -1,5 +1,4 @@
 -- `walk` meets its contract. The invariant: the rows passed are good, and their marks are set. Assumes nothing.
-use Prim.Native.Nat.{◌≤◌, ◌-◌}
 use Rattle.rules.specs.Place.{Figure, Patch}
 use Rattle.rules.specs.RowCheck.{Good}
 use Rattle.row_tests.specs.Against.{Against}
@@ -7,7 +6,7 @@ use Rattle.row_tests.specs.Marks.{Noted}
 use Rattle.row_check.proofs.walk.Given as goal
 
 abbrev pub invariant-loop-i : goal.invariant-loop-i
-invariant-loop-i l = (l.i ≤ l.count) × Noted l.n l.rows l.i l.marks × ((F : Figure) (P : Patch) → Against F P l.tables l.size l.kinds l.first l.second l.m l.n → Good F P l.rows l.i)
-
-abbrev pub decreases-loop-i : goal.decreases-loop-i
-decreases-loop-i l = l.count - l.i
+invariant-loop-i l = record {
+  noted : Noted l.n l.rows l.i l.marks;
+  good : (F : Figure) (P : Patch) → Against F P l.tables l.size l.figure.kinds l.lines l.n → Good F P l.rows l.i;
+}

@@ -1,26 +1,27 @@
 -- `read` meets its contract: each return is what `reader` gives where that check is the first to fail. Assumes nothing.
-use mathlib.Core.Path.{refl}
+use Prim.Native.Nat.{◌*◌, ◌≤◌}
+use mathlib.Core.Path.{ap, ◌∙◌}
 use native.Mathlib.Omega.{arith}
-use Rattle.sheet.specs.Check.{verdict_of}
-use Rattle.sheet.proofs.Verdicts.{passes}
-use Rattle.sheet.proofs.Words.{field_lt}
-use Rattle.sheet_reader.proofs.Reading.{by_sheet, by_kinds, by_lines, by_counts}
+use Rattle.std.proofs.Common.{Err}
+use Rattle.std.proofs.lemmas.Result.{err_from_is_err_and}
+use lib.ListN.{length}
+use Rattle.rules.specs.Sheet.{vertex_count, line_count}
+use Rattle.rules.specs.Calls.{reader}
+use Rattle.sheet_reader.specs.Answers.{as_read}
+use Rattle.sheet_reader.proofs.Reading.{by_sheet, by_room, by_counts}
+use Rattle.sheet_reader.proofs.read.Goals.{then-kinds-n-via-then-kinds-n, then-kinds-n-via-else-kinds-n+then-lines-m}
 use Rattle.sheet_reader.proofs.read.Goals as goal
 
-pub returns-then-verdict-ne0 : goal.returns-then-verdict-ne0
-returns-then-verdict-ne0 c = let a = c.args in by_sheet a.sheet.now a.kinds.now a.lines.now c.unread.result (verdict_of c.check_patch-verdict.result) c.unread.ensures c.check_patch-verdict.ensures (λ z. omega arith)
+pub returns-in_err-checked : goal.returns-in_err-checked
+returns-in_err-checked c = let a = c.args in
+    let t = err_from_is_err_and c.from_residual.result c.from_residual.ensures.1 in
+    ap (λ r. as_read r a.kinds.now a.lines.now) (t.1 ∙ ap Err t.2) ∙ by_sheet a.sheet.now a.kinds.now a.lines.now c.in_err-checked.field-0.0 c.in_err-checked.ensures.says
 
 pub returns-then-kinds-n : goal.returns-then-kinds-n
-returns-then-kinds-n c = let a = c.args in by_kinds a.sheet.now a.kinds.now a.lines.now (passes c.check_patch-verdict.ensures c.if-verdict-ne0.false) c.unread-then-kinds-n.result (verdict_of c.lineless.result) c.lineless.ensures c.unread-then-kinds-n.ensures (omega arith)
-
-pub returns-then-lines-m : goal.returns-then-lines-m
-returns-then-lines-m c = let a = c.args in by_lines a.sheet.now a.kinds.now a.lines.now (passes c.check_patch-verdict.ensures c.if-verdict-ne0.false) c.unread-then-lines-m.result (verdict_of c.lineless-then-lines-m.result) c.lineless-then-lines-m.ensures c.unread-then-lines-m.ensures (omega arith)
-
-pub read_kinds-requires : goal.read_kinds-requires
-read_kinds-requires c = omega (arith, c.counts-c.ensures, field_lt c.args.sheet.now 0 10)
-
-pub read_lines-requires : goal.read_lines-requires
-read_lines-requires c = omega (arith, c.counts-c.ensures, field_lt c.args.sheet.now 0 10, field_lt c.args.sheet.now 10 12)
+returns-then-kinds-n c = let a = c.args in
+    let s = c.in_ok-checked.checked in
+    let short : vertex_count s ≤ length a.kinds.now → 3 * line_count s ≤ length a.lines.now → ⊥ = λ h k. elim c.then-kinds-n.branch [ then-kinds-n-via-then-kinds-n w ↦ omega arith | then-kinds-n-via-else-kinds-n+then-lines-m w ↦ omega arith ] in
+    by_room s a.kinds.now a.lines.now c.vertices-n.ensures.accepted short ∙ ap (λ b. reader b a.kinds.now a.lines.now) c.in_ok-checked.ensures.same
 
 pub returns : goal.returns
-returns c = let a = c.args in by_counts a.sheet.now a.kinds.now a.lines.now (passes c.check_patch-verdict.ensures c.if-verdict-ne0.false) _ _ _ refl refl c.counts-c.ensures (omega (arith, c.if-kinds-n.false)) (omega (arith, c.if-lines-m.false)) c.read_kinds.ensures c.read_lines.ensures
+returns c = let a = c.args in by_counts c.in_ok-checked.checked a.kinds.now a.lines.now c.vertices-n.ensures.accepted c.vertices-n.ensures.value c.lines-m.ensures.value (omega arith) (omega arith) c.read_kinds.ensures c.read_lines.ensures ∙ ap (λ b. reader b a.kinds.now a.lines.now) c.in_ok-checked.ensures.same

@@ -1,30 +1,27 @@
 -- `write` meets its contract: each return is what `writer` gives where that check is the first to fail. Assumes nothing.
-use Prim.Native.Nat.{◌/◌, ◌+◌}
-use mathlib.Core.Path.{refl, ap}
 use native.Mathlib.Omega.{arith}
-use Rattle.sheet.specs.Check.{verdict_of}
-use Rattle.sheet.proofs.Verdicts.{passes}
-use Rattle.sheet_writer.proofs.Writing.{lists_small, by_lists, by_room, kinds_fit, lines_fit, by_bytes}
+use mathlib.Core.Path.{ap, sym, ◌∙◌}
+use Rattle.sheet_writer.specs.Answers.{check_verdict}
+use Rattle.sheet_writer.proofs.Writing.{told, lists_small, by_lists, by_room, kinds_fit, lines_fit, by_bytes}
 use Rattle.sheet_writer.proofs.write.Goals as goal
 
-pub returns-then-verdict-ne0 : goal.returns-then-verdict-ne0
-returns-then-verdict-ne0 c = let a = c.args in by_lists a.kinds.now a.lines.now a.bytes.now c.unwritten.result (verdict_of c.check_lists-verdict.result) c.unwritten.ensures c.check_lists-verdict.ensures (λ z. omega arith)
+pub returns-in_err-check_lists : goal.returns-in_err-check_lists
+returns-in_err-check_lists c = let a = c.args in
+    let e = ap check_verdict (sym c.in_err-check_lists.was) ∙ c.check_lists.ensures in
+    rw (told c.from_residual.result c.from_residual.ensures) (by_lists a.kinds.now a.lines.now a.bytes.now c.in_err-check_lists.field-0.0 e)
 
 pub bit_length-requires : goal.bit_length-requires
-bit_length-requires c = omega (arith, lists_small c.args.kinds.now c.args.lines.now (passes c.check_lists-verdict.ensures c.if-verdict-ne0.false))
-
-pub overflow_add-count : goal.overflow_add-count
-overflow_add-count c = omega (arith, c.bit_length.ensures, lists_small c.args.kinds.now c.args.lines.now (passes c.check_lists-verdict.ensures c.if-verdict-ne0.false))
+bit_length-requires c = omega (arith, lists_small c.args.kinds.now c.args.lines.now (sym c.in_ok-check_lists.ensures))
 
 pub returns-then-bytes-count : goal.returns-then-bytes-count
-returns-then-bytes-count c = let a = c.args in by_room a.kinds.now a.lines.now a.bytes.now (passes c.check_lists-verdict.ensures c.if-verdict-ne0.false) c.unwritten-then-bytes-count.result (verdict_of c.lineless.result) c.lineless.ensures c.unwritten-then-bytes-count.ensures (omega arith)
+returns-then-bytes-count c = let a = c.args in
+    by_room a.kinds.now a.lines.now a.bytes.now (sym c.in_ok-check_lists.ensures) (omega (arith, c.div_ceil-count.ensures, c.bit_length.ensures))
 
 pub write_sheet-requires : goal.write_sheet-requires
 write_sheet-requires c = let a = c.args in
-    let z = passes c.check_lists-verdict.ensures c.if-verdict-ne0.false in
-    let t = lists_small a.kinds.now a.lines.now z in
-    (omega arith, omega arith, kinds_fit a.kinds.now a.lines.now a.bytes.now z (omega arith), lines_fit a.kinds.now a.lines.now a.bytes.now z (omega arith), omega arith)
+    let e = sym c.in_ok-check_lists.ensures in
+    let t = lists_small a.kinds.now a.lines.now e in
+    (omega arith, omega arith, kinds_fit a.kinds.now a.lines.now a.bytes.now e (omega arith), lines_fit a.kinds.now a.lines.now a.bytes.now e (omega arith), omega arith)
 
 pub returns : goal.returns
-returns c = let a = c.args in
-    by_bytes a.kinds.now a.lines.now a.bytes.now (passes c.check_lists-verdict.ensures c.if-verdict-ne0.false) (omega arith) _ _ refl refl (ap (λ k. (k + 7) / 8) c.bit_length.ensures) c.write_sheet.ensures
+returns c = let a = c.args in by_bytes a.kinds.now a.lines.now a.bytes.now (sym c.in_ok-check_lists.ensures) (omega arith) _ _ (omega arith) c.write_sheet.ensures

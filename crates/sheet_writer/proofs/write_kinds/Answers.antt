@@ -10,18 +10,18 @@ use Rattle.rules.proofs.RoundTrip.{length_kinds}
 use Rattle.sheet_writer.proofs.Pens.{nothing, added_then}
 use Rattle.sheet_writer.proofs.write_kinds.Goals as goal
 
-pub loop-i-init : goal.loop-i-init
+pub loop-kind-init : goal.loop-kind-init
 unfolding kind_bits
-loop-i-init c = (omega arith, c.requires.0, nothing c.args.pen c.args.bytes.now c.requires.2.low)
+loop-kind-init c = (c.requires.0, nothing c.args.pen c.args.bytes.now c.requires.2.low)
 
-pub put-next-requires : goal.put-next-requires
-put-next-requires c = let l = c.loop-i in
+pub put-pen-requires : goal.put-pen-requires
+put-pen-requires c = let l = c.loop-kind in
+    let i = l.kind-index in
     let k = c.args.kinds.now in
-    let fit : get_or k l.i 0 ≤ 63 = c.requires.1 l.i (omega arith) in
-    let few : length (take l.i k) ≡ l.i = length-take-le l.i k (omega arith) in
-    (l.invariant.1, omega arith, omega arith, record { low = l.invariant.2.low; room = omega (arith, l.invariant.2.along, l.invariant.2.same, length_kinds (take l.i k), c.requires.2.room) })
+    let fit : get_or k i 0 ≤ 63 = c.requires.1 i (omega arith) in
+    let few : length (take i k) ≡ i = length-take-le i k (omega arith) in
+    (l.invariant.0, omega arith, omega (arith, c.from.ensures), record { low = l.invariant.1.low; room = omega (arith, l.invariant.1.along, l.invariant.1.same, length_kinds (take i k), c.requires.2.room) })
 
-pub loop-i-preserved : goal.loop-i-preserved
-loop-i-preserved c = let l = c.loop-i in
-    let k = c.args.kinds.now in
-    (omega arith, c.put-next.ensures.0, rw (kind_next k l.i (omega arith)) (added_then l.invariant.2 c.put-next.ensures.1))
+pub loop-kind-preserved : goal.loop-kind-preserved
+loop-kind-preserved c = let l = c.loop-kind in
+    (c.put-pen.ensures.0, rw (kind_next c.args.kinds.now l.kind-index (omega arith)) (added_then l.invariant.1 (rw c.from.ensures at c.put-pen.ensures.1)))

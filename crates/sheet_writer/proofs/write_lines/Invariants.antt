@@ -1,8 +1,6 @@
 -- `write_lines` meets its contract. The invariant: the bits of the first j lines were put down. Assumes nothing.
-use Prim.Native.Nat.{◌≤◌, ◌<◌, ◌-◌, ◌/◌}
+use Prim.Native.Nat.{◌<◌}
 use mathlib.Core.List.{map}
-use mathlib.Core.Path.{◌≡◌}
-use lib.ListN.{length}
 use Rattle.laws.specs.Lists.{upto}
 use Rattle.rules.specs.Sheet.{line_bits}
 use Rattle.sheet_writer.specs.Writing.{line_in}
@@ -10,7 +8,4 @@ use Rattle.sheet_writer.specs.Pen.{Added}
 use Rattle.sheet_writer.proofs.write_lines.Given as goal
 
 abbrev pub invariant-loop-j : goal.invariant-loop-j
-invariant-loop-j l = (l.j ≤ l.m) × (l.m ≡ length l.lines / 3) × (l.next.count < 8) × Added (line_bits (map (line_in l.lines) (upto l.j 0))) l.initial.next l.initial.bytes l.next l.bytes
-
-abbrev pub decreases-loop-j : goal.decreases-loop-j
-decreases-loop-j l = l.m - l.j
+invariant-loop-j l = (l.pen.count < 8) × Added (line_bits (map (line_in l.lines) (upto l.j 0))) l.initial.pen l.initial.bytes l.pen l.bytes

@@ -1,13 +1,8 @@
 -- `kinds_fit` meets its contract. The invariant: the entries passed fit. Assumes nothing.
-use mathlib.Core.Path.{◌≡◌}
-use Prim.Native.Nat.{ℕ, ◌≤◌, ◌<◌, ◌-◌}
-use lib.ListN.{length, get_or}
+use Rattle.std.proofs.Common.{ℕ, ◌<◌, ◌≡◌, get_or}
 use Rattle.rules.specs.Place.{entry}
 use Rattle.patch.specs.Tables.{kind_at}
 use Rattle.row_tests.proofs.place.kinds_fit.Given as goal
 
 abbrev pub invariant-loop-u : goal.invariant-loop-u
-invariant-loop-u l = (l.u ≤ length l.row) × ((k : ℕ) → k < l.u → (entry l.row k < l.size) × (kind_at l.tables (entry l.row k) ≡ get_or l.kinds k 0))
-
-abbrev pub decreases-loop-u : goal.decreases-loop-u
-decreases-loop-u l = length l.row - l.u
+invariant-loop-u l = (k : ℕ) → k < l.u → (entry l.row k < l.size) × (kind_at l.tables (entry l.row k) ≡ get_or l.kinds k 0)

@@ -2,5 +2,5 @@
 use Rattle.text.proofs.Sheets.{made}
 use Rattle.text.proofs.sheet_of.sheet_of.Goals as goal
 
-pub returns : goal.returns
-returns c = let e = c.written.ensures in (made _ _ _ _ _ e.0, e.1)
+pub returns-clause-made : goal.returns-clause-made
+returns-clause-made c = made _ _ _ _ _ c.written.ensures.wrote

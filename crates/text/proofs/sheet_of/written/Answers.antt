@@ -1,8 +1,11 @@
--- Number, count and bytes are what the writer gave. Assumes nothing.
-use mathlib.Core.Path.{ap}
-use Rattle.std.proofs.Common.{arith}
+-- The count is what the writer gave. Assumes nothing.
+use Rattle.std.proofs.Common.{rules, arith}
+use Rattle.rules.specs.Calls.{writer}
+use Rattle.text.specs.Sheets.{Wrote}
 use Rattle.text.proofs.Sheets.{counted}
 use Rattle.text.proofs.sheet_of.written.Goals as goal
 
-pub returns : goal.returns
-returns c = let e = c.write-answer.ensures in (record { number = ap (λ w. w.number) e; count = ap (λ w. w.count) e; bytes = ap (λ w. w.bytes) e }, counted _ _ _ _ _ e (omega arith))
+pub returns-clause-counted : goal.returns-clause-counted
+returns-clause-counted c =
+    let W : Wrote (writer c.args.kinds.now c.args.lines.now c.args.bytes.now) c.map_err.result c.write.new.bytes = search rules in
+    counted _ _ _ _ _ W (omega arith)

@@ -1,0 +1,2 @@
+-- What the contract of a sheet's text cites.
+pub mod Said
