@@ -68,16 +68,17 @@ for name, raw in files():
     # "none"; numbers tested for a kind, a type or a refusal
     for m in re.finditer(r"(?m)^(?:pub(?:\(crate\))? )?enum (\w+) \{\n((?:.|\n)*?)^\}", text):
         cases = re.findall(r"(?m)^    (\w+)(\(|,| \{)", m.group(2))
-        if any(c[1] == "(" for c in cases) and any(c[1] == "," for c in cases) and len(cases) <= 4:
+        if any(c[1] == "(" for c in cases) and any(c[1] == "," for c in cases) and len(cases) <= 4 and not re.search(r"Refusal|Fault", m.group(1)):
             place("1", m.start(), f"enum {m.group(1)}")
     for m in re.finditer(r"(?m)^(?:pub(?:\(crate\))? )?struct (\w+)[^;{]*\{\n((?:.|\n)*?)^\}", text):
         if re.search(r"(?m)^    (?:pub )?(?:number|reached|kept): ", m.group(2)):
             place("1", m.start(), f"struct {m.group(1)}")
     for m in re.finditer(r"\b(?:65535|1000000|60000|999|NONE)\b(?=;|,?\n| ?\})|=> 3\b|\b3\n\}|\b64\n\}", text):
         line = text[text.rfind("\n", 0, m.start()) + 1:text.find("\n", m.start())]
-        place("1", m.start(), line)
-    for m in re.finditer(r"\b(?:\w+\.)?(?:number|sort|part|which|head|class\([^)]*\)|lowest|choice)\b\)? (?:==|!=) \d+|if (?:kind|sort) (?:<|==) \d+|(?m:^ +\d+ => )|Refusal::\w+ => |(?:ten|part) \+ \d", text):
-        if not re.search(r"lineless|verdict\(", text[m.start():text.find("\n", m.start())]):
+        if not re.search(r"allowance|ensures", line):
+            place("1", m.start(), line)
+    for m in re.finditer(r"\b(?:\w+\.)?(?:number|sort|part|which|head|class\([^)]*\)|lowest|choice)\b\)? (?:==|!=) \d+|if (?:kind|sort) (?:<|==) \d+|(?m:^ +\d+ => )|return (?:\w+\.)?ten \+ \d", text):
+        if not re.search(r"=> Ok\(", text[m.start():text.find("\n", m.start())]):
             place("1", m.start(), text[text.rfind("\n", 0, m.start()) + 1:text.find("\n", m.start())])
 
     # 3: loops that count
@@ -86,8 +87,8 @@ for name, raw in files():
 
     for line, function, signature, body in functions(text):
         inner = " ".join(body.split())
-        # 4: a function that is one conversion, a comparison or a copy of fields
-        if re.fullmatch(r"\{? ?\(?\w+(?:\.\w+)? as \w+\)? ?\}?", inner) or re.fullmatch(r"(?:equal|same_row|same_counts|number_of|refusal|refused|unread|unwritten)", function):
+        # 4: a function, not a method, that is one conversion, a comparison or a copy of fields
+        if "self" not in signature and re.fullmatch(r"\{? ?\(?\w+(?:\.\w+)? as \w+\)? ?\}?", inner) or re.fullmatch(r"(?:equal|same_row|same_counts|number_of|refusal|refused|unread|unwritten)", function):
             found["4"].append((name, line, f"fn {function}"))
         # 4: printing by hand, label and number
         if re.search(r"&impl E?[Pp]rint", signature) and re.fullmatch(r"(?:tell\w*|print|print_count|end_line|say_line)", function):

@@ -12,7 +12,7 @@ pub struct Drawn {
     pub count: usize,
 }
 
-// Two ends of a line.
+// Two ends of a line. Not the Ends of `row_tests`: what is tried is drawn by nothing of it.
 #[derive(Clone, Copy, Debug, PartialEq, Eq)]
 struct Ends {
     first: u16,
@@ -58,7 +58,7 @@ impl Ends {
     }
 }
 
-// Lines among n vertices, ascending by jumps below `gap`, as many as there are or as the list holds.
+// Lines among n vertices, ascending by jumps below `gap`, as many as there are or as the list holds. That a gap is not 0 stays a clause: the programs write it as a literal.
 fn draw_lines(lines: &mut [u16], n: u16, gap: u16, seed: u32) -> Drawn
     requires { 0 < gap }
     ensures { result.count ≤ length lines.new }

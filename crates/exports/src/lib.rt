@@ -13,6 +13,8 @@ use sheet::fault::{Verdict, lineless};
 use sheet_reader::read;
 use sheet_writer::write;
 
+// The four answers are numbers side by side, as C has them (outside/gelquorist.h).
+
 // What the search returns: its number, the line that the number is about or 65,535, the rows written and the tries spent.
 #[repr(C)]
 #[derive(Clone, Copy)]

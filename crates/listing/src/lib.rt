@@ -11,7 +11,7 @@ use sheet::fault::Fault;
 use sheet::fields::LineType;
 use sheet_reader::{Refusal, read};
 
-// Text from `at` on, as much as there is room for.
+// Text from `at` on, as much as there is room for. The place is handed on beside the bytes: with both in a struct (tried) a method may leave other bytes in its field for all that a caller knows, and the proof of `put_items` does not close.
 fn put(out: &mut [u8], at: usize, text: &str) -> usize
     requires { at ≤ length out.old }
     ensures { result ≤ length out.new }

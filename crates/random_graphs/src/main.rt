@@ -68,13 +68,14 @@ fn part_agrees(found: Found, whole: &Ran, part: &Ran, small: Small) -> bool {
         && first(&whole.list, part.end) == part.rows()
 }
 
-// What a second call is lent: one of room and allowance ample and the other drawn, both drawn, or both just enough.
+// What a second call is lent: one of room and allowance ample and the other drawn, both drawn, or both just enough. The bound on t, here and below, keeps a program's own arithmetic in range.
 fn drawn_small(t: u64, found: Found) -> Small
     requires { t < 1000000000 }
 {
     let rows = found.rows % 10000;
     let room = below(t + 1, rows as u64 + 2) as usize;
     let allowance = below(t + 2, u64::from(found.tries) % 1000000000 + 2) as u32;
+    // a drawn number, which stands for nothing else
     match below(t, 4) {
         0 => Small {
             room,

@@ -14,7 +14,7 @@ ghost use Rattle.row_check.specs.Answers.{row_of_refusal, bad_number, bad_row, r
 
 use figure::FigureArrays;
 use figure::checked::{Refusal as FigureRefusal, load_connected};
-use patch::PatchTables;
+use patch::{PatchSize, PatchTables};
 use patch_loader::load;
 use row_tests::equal::{Marks, repeats, row_of};
 use row_tests::place::{Ends, ends_of, is_place};
@@ -114,7 +114,7 @@ impl Refusal {
 // Each row in its turn: whether it is a place, then whether it equals an earlier row.
 fn walk(
     tables: &PatchTables<'_>,
-    size: u16,
+    size: PatchSize,
     figure: &FigureArrays,
     lines: &[Ends],
     rows: &[u16],
@@ -122,7 +122,7 @@ fn walk(
     requires { (F : Figure) × ((P : Patch) × Against F P tables.now size figure.now.kinds lines.now figure.now.n) }
     ensures { (F : Figure) (P : Patch) → Against F P tables.now size figure.now.kinds lines.now figure.now.n → RowsTested F P rows.now (length rows.now / figure.now.n) (bad_number result) (bad_row result) }
 {
-    let n = figure.n;
+    let n = figure.n.get();
     let mut marks = Marks::new();
     for i in 0..rows.len() / n {
         if !is_place(tables, size, &figure.kinds, lines, row_of(rows, n, i)) {
@@ -146,7 +146,7 @@ fn test_rows(
     sheet: &FigureSheet<'_>,
     figure: &FigureArrays,
     tables: &PatchTables<'_>,
-    size: u16,
+    size: PatchSize,
     rows: &[u16],
 ) -> Result<(), BadRow>
     requires accepted { Accepted figure_limits sheet.now }
@@ -174,12 +174,13 @@ pub fn check_rows(figure: &[u8], patch: &[u8], rows: &[u16]) -> Result<(), Refus
 {
     let (sheet, arrays) = checked_figure(figure)?;
     let patch = PatchSheet::check(patch)?;
-    if rows.len() % arrays.n != 0 {
+    if rows.len() % arrays.n.get() != 0 {
         return Err(Refusal::Uneven);
     }
     let mut numbers = [0u16; 5122];
     load(&patch, &mut numbers);
     let tables = PatchTables::new(&numbers);
-    test_rows(&sheet, &arrays, &tables, patch.vertices() as u16, rows)?;
+    let size = PatchSize::new(patch.vertices());
+    test_rows(&sheet, &arrays, &tables, size, rows)?;
     Ok(())
 }

@@ -6,7 +6,7 @@ ghost use Rattle.row_tests.specs.Marks.{digest_of, is_marked, marked_at, Noted};
 
 use std::marker::Model;
 
-// Row i of a list of rows of n entries each, as a part of the list.
+// Row i of a list of rows of n entries each, as a part of the list. That it lies there is about three numbers, and stays a clause here and below.
 pub fn row_of(rows: &[u16], n: usize, i: usize) -> &[u16]
     requires { i * n + n ≤ length rows.now }
     ensures { result.now ≡ row_at n rows.now i }

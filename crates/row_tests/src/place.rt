@@ -7,7 +7,7 @@ ghost use Rattle.row_tests.specs.Says.{Says};
 ghost use Rattle.row_tests.specs.Against.{KindsFit, Apart, LinesKept, HoldsEnds, EndsBelow, Within, Against};
 
 use arrayvec::ArrayVec;
-use patch::{PatchTables, PatchVertex};
+use patch::{PatchSize, PatchTables, PatchVertex};
 use sheet::check::FigureSheet;
 
 // The ends of a figure's line.
@@ -33,12 +33,17 @@ pub fn ends_of(sheet: &FigureSheet<'_>) -> ArrayVec<Ends, 64>
 }
 
 // Whether every entry is a patch vertex of its figure vertex's kind.
-pub(crate) fn kinds_fit(tables: &PatchTables<'_>, size: u16, kinds: &[u16; 32], row: &[u16]) -> bool
-    requires { (size ≤ 512) × (length row.now ≤ 32) }
+pub(crate) fn kinds_fit(
+    tables: &PatchTables<'_>,
+    size: PatchSize,
+    kinds: &[u16; 32],
+    row: &[u16],
+) -> bool
+    requires { length row.now ≤ 32 }
     ensures { Says result (KindsFit tables.now size kinds.now row.now) }
 {
     for (u, &v) in row.iter().enumerate() {
-        if size <= v || tables.kind_of(PatchVertex::new(v)) != kinds[u] {
+        if size.get() <= v as usize || tables.kind_of(PatchVertex::new(v)) != kinds[u] {
             return false;
         }
     }
@@ -78,7 +83,7 @@ pub(crate) fn lines_kept(tables: &PatchTables<'_>, lines: &[Ends], row: &[u16]) 
 // Whether a row is a place.
 pub fn is_place(
     tables: &PatchTables<'_>,
-    size: u16,
+    size: PatchSize,
     kinds: &[u16; 32],
     lines: &[Ends],
     row: &[u16],

@@ -113,6 +113,7 @@ impl<'a, const VERTICES: u16, const LINES: u16, const TEN: u16> Sheet<'a, VERTIC
     pub fn lines(&self) -> usize
         ensures value { result ≡ rules.line_count self.now }
         ensures few { result ≤ LINES }
+        ensures accepted { Accepted (record { vertices = VERTICES; lines = LINES; ten = TEN }) self.now }
     {
         self.lines as usize
     }

@@ -3,7 +3,7 @@ ghost use Rattle.std.specs.Prelude.{◌≡◌, ◌≤◌};
 ghost use Rattle.rules.specs.Checks.{lineless};
 ghost use Rattle.sheet.specs.Check.{verdict_of, fault_verdict, bad_line_verdict};
 
-// What a check answers in document 01's numbers: 0, or the number of the first check to fail; and the line that it is about, counted from 0, or 65,535.
+// What a check answers in document 01's numbers: 0, or the number of the first check to fail; and the line that it is about, counted from 0, or 65,535. It stays two numbers, since the calls for C and what the programs print have them so; in the code a check answers a Result.
 #[derive(Clone, Copy, Debug, PartialEq, Eq)]
 pub struct Verdict {
     pub number: u16,

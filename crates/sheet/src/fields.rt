@@ -94,7 +94,7 @@ pub fn line_at(bytes: &[u8], at: usize) -> SheetLine
     }
 }
 
-// The kind of vertex `i`.
+// The kind of vertex `i`, whether or not the sheet has it: the bound, here and in `Sheet`, keeps the place of its bits in range.
 #[tactic(auto, using(crate::proofs::Words::field_lt))]
 pub fn kind_at(bytes: &[u8], i: usize) -> u16
     requires { i < 65536 }

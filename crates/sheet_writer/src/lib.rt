@@ -30,17 +30,6 @@ pub enum Refusal {
     Room,
 }
 
-impl From<BadLine> for Refusal {
-    ghost use Rattle.std.specs.Prelude.{◌≡◌};
-    ghost use Rattle.sheet_writer.specs.declared.Refusal.TheVariants.{At};
-
-    ghost from_gives = { λ b r. r ≡ At b };
-
-    fn from(bad: BadLine) -> Refusal {
-        Refusal::At(bad)
-    }
-}
-
 // A refusal in document 01's numbers.
 impl From<Refusal> for Verdict {
     ghost use Rattle.std.specs.Prelude.{◌≡◌};
@@ -100,7 +89,9 @@ fn check_lists(kinds: &[u16], lines: &[u16]) -> Result<(), Refusal>
     if !kinds_fit(kinds) {
         return Err(Refusal::Kind);
     }
-    check_line_list(lines, n as u16)?;
+    if let Err(bad) = check_line_list(lines, n as u16) {
+        return Err(Refusal::At(bad));
+    }
     Ok(())
 }
 

@@ -3,7 +3,7 @@ ghost use Rattle.std.specs.Prelude.{◌≡◌, [], ◌+◌, ◌≤◌, ◌<◌, 
 ghost use Rattle.rules.specs.Sheet.{bits};
 ghost use Rattle.sheet_writer.specs.Pen.{Able, Added};
 
-// The next byte, the bits that wait for it, and their number.
+// The next byte, the bits that wait for it, and their number: fewer than eight between two fields, which stays a clause, since while bytes go out there are more.
 #[derive(Clone, Copy)]
 pub(crate) struct Pen {
     pub at: usize,
@@ -36,6 +36,7 @@ pub(crate) fn put(bytes: &mut [u8], pen: Pen, value: u32, width: usize) -> Pen
         held: (pen.held << width) + value,
         count: pen.count + width,
     };
+    // no count: the eight bits of a byte go out each turn
     while 8 <= next.count {
         next = emit(bytes, next);
     }

@@ -13,6 +13,7 @@ pub fn read_full<R: Read>(input: &mut R, bytes: &mut [u8]) -> usize
     ensures given { Consumes (R.remaining input.old) (R.remaining input.new) (take result bytes.new) }
 {
     let mut done = 0;
+    // no count: each turn adds what one read gave
     while done < bytes.len() {
         let Ok(n) = input.read(&mut bytes[done..]) else {
             break;

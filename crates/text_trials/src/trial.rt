@@ -54,10 +54,12 @@ impl Tally {
         text[p] = byte;
         let (number, line) = match sheet_of(text, &mut bytes) {
             Ok(_) => (0, last_line(text)),
-            Err(refusal) => (refusal.reason.number(), refusal.line),
+            Err(refusal) => {
+                self.refused = self.refused.wrapping_add(1);
+                (refusal.reason.number(), refusal.line)
+            }
         };
         text[p] = old;
-        self.refused = self.refused.wrapping_add(u32::from(number != 0));
         self.digest.mix(number);
         self.digest.mix(line as u64);
     }

@@ -19,7 +19,7 @@ pub struct Limits {
 // What memory and list hold before a call.
 const DIRTY: u16 = 54321;
 
-// What came back, with the list. `end` is where the rows end in it; `kept` says that the memory is as promised and that no number past the rows changed.
+// What came back, with the list. `end` is where the rows end in it; `kept` says that the memory is as promised and that no number past the rows changed: a yes or no of its own, whatever came back.
 #[derive(Drop)]
 pub struct Ran {
     pub found: Result<Found, Refusal>,
@@ -29,7 +29,7 @@ pub struct Ran {
     ghost within: { end ≤ 8192 },
 }
 
-// A call's answer in document 01's numbers.
+// A call's answer in document 01's numbers, as it is printed.
 #[derive(Clone, Copy, PartialEq, Eq)]
 pub struct Said {
     pub number: u16,
