@@ -63,17 +63,20 @@ fn forked_in(rt: &impl Print, room: usize)
     forked(rt, 'e', limits);
 }
 
-fn mirrored(rt: &impl Print) {
-    let pair = Lists {
-        kinds: &[2, 2],
-        lines: &[1, 0, 1],
-    };
-    bench(rt, 'f', pair, pair, allowed(1000000));
-}
-
-fn ringed(rt: &impl Print) {
-    bench(
-        rt,
+// Benches f to i: letter, figure and patch.
+const WHOLE: [(char, Lists<'static>, Lists<'static>); 4] = [
+    (
+        'f',
+        Lists {
+            kinds: &[2, 2],
+            lines: &[1, 0, 1],
+        },
+        Lists {
+            kinds: &[2, 2],
+            lines: &[1, 0, 1],
+        },
+    ),
+    (
         'g',
         Lists {
             kinds: &[3, 3, 3],
@@ -83,13 +86,8 @@ fn ringed(rt: &impl Print) {
             kinds: &[3, 3, 3, 3],
             lines: &[1, 0, 1, 1, 0, 3, 1, 1, 2, 1, 2, 3],
         },
-        allowed(1000000),
-    );
-}
-
-fn starred(rt: &impl Print) {
-    bench(
-        rt,
+    ),
+    (
         'h',
         Lists {
             kinds: &[1, 2, 3, 2],
@@ -99,13 +97,8 @@ fn starred(rt: &impl Print) {
             kinds: &[1, 2, 3, 3, 3],
             lines: &[1, 0, 1, 1, 0, 2, 1, 0, 3, 1, 0, 4],
         },
-        allowed(1000000),
-    );
-}
-
-fn swapped(rt: &impl Print) {
-    bench(
-        rt,
+    ),
+    (
         'i',
         Lists {
             kinds: &[1, 2, 2, 4],
@@ -115,9 +108,8 @@ fn swapped(rt: &impl Print) {
             kinds: &[1, 2, 2, 4],
             lines: &[1, 0, 1, 1, 0, 2, 1, 1, 3],
         },
-        allowed(1000000),
-    );
-}
+    ),
+];
 
 // Bench j: a figure of one vertex.
 fn single(rt: &impl Print, kind: u16, allowance: u32) {
@@ -180,10 +172,9 @@ fn main(rt: HostRuntime) {
     for room in [1, 2] {
         forked_in(&rt, room);
     }
-    mirrored(&rt);
-    ringed(&rt);
-    starred(&rt);
-    swapped(&rt);
+    for (letter, figure, patch) in WHOLE {
+        bench(&rt, letter, figure, patch, allowed(1000000));
+    }
     single(&rt, 5, 1000000);
     single(&rt, 6, 1000000);
     single(&rt, 6, 0);

@@ -2,7 +2,7 @@
 #![tactic(auto)]
 
 ghost use Rattle.std.specs.Prelude.{◌≡◌, ◌/◌, length, IfOk};
-ghost use Rattle.rules.specs.Checks.{Accepted, figure_limits, verdict};
+ghost use Rattle.rules.specs.Checks.{verdict};
 ghost use Rattle.rules.specs.Place.{Figure, Patch};
 ghost use Rattle.rules.specs.Calls.{figure_of, figure_checks};
 ghost use Rattle.rules.specs.RowCheck.{row_count, RowsTested, RowsChecked};
@@ -149,7 +149,6 @@ fn test_rows(
     size: PatchSize,
     rows: &[u16],
 ) -> Result<(), BadRow>
-    requires accepted { Accepted figure_limits sheet.now }
     requires figure { HoldsFigure (figure_of sheet.now) figure.now.n figure.now.kinds figure.now.near figure.now.degrees }
     requires patch { (P : Patch) × Holds P tables.now × (P.graph.size ≡ size) }
     ensures { (P : Patch) → Holds P tables.now → P.graph.size ≡ size → RowsTested (figure_of sheet.now) P rows.now (row_count sheet.now rows.now) (bad_number result) (bad_row result) }

@@ -1,5 +1,6 @@
 // Whether a row is a place: its entries and their kinds, that no two are the same, and the figure's lines one by one.
 ghost use Rattle.std.specs.Prelude.{◌≤◌, length};
+ghost use Rattle.rules.specs.Checks.{Accepted, figure_limits};
 ghost use Rattle.rules.specs.Place.{Figure, Patch, Place};
 ghost use Rattle.rules.specs.Calls.{figure_of};
 ghost use Rattle.patch.specs.Tables.{Linked};
@@ -19,7 +20,8 @@ pub struct Ends {
 
 // The lines of a checked figure's sheet, read once for all rows.
 pub fn ends_of(sheet: &FigureSheet<'_>) -> ArrayVec<Ends, 64>
-    ensures { HoldsEnds (figure_of sheet.now) result.items }
+    ensures holds { HoldsEnds (figure_of sheet.now) result.items }
+    ensures accepted { Accepted figure_limits sheet.now }
 {
     let mut ends = ArrayVec::new();
     for j in 0..sheet.lines() {

@@ -1,5 +1,5 @@
 // A sheet whose checks passed: 11 to 15 for a figure's and 21 to 25 for a patch's, in one pass over its lines.
-ghost use Rattle.std.specs.Prelude.{◌≡◌, ◌+◌, ◌*◌, ◌≤◌, ◌<◌, ℕ, List, length, IfOk};
+ghost use Rattle.std.specs.Prelude.{◌≡◌, ◌+◌, ◌*◌, ◌≤◌, ◌<◌, ℕ, List, IfOk};
 ghost use Rattle.std.proofs.Math.Option.{none};
 ghost use Rattle.rules.specs.Sheet as rules;
 ghost use Rattle.rules.specs.Checks.{verdict, line_fits, comes_after, line_checks, sheet_verdict, Accepted};

@@ -1,5 +1,5 @@
 // Bit fields by bytes: a field of up to 25 bits lies in four bytes, whatever its offset.
-ghost use Rattle.std.specs.Prelude.{◌≡◌, ◌+◌, ◌*◌, ◌/◌, ◌≤◌, ◌<◌, ◌^◌, length, get_or};
+ghost use Rattle.std.specs.Prelude.{◌≡◌, ◌+◌, ◌*◌, ◌≤◌, ◌<◌, ◌^◌, get_or};
 ghost use Rattle.rules.specs.Sheet as rules;
 ghost use Rattle.sheet.specs.Fields.{four_bytes, line_of};
 
@@ -71,6 +71,22 @@ impl TryFrom<u16> for LineType {
             1 => Ok(LineType::Cable),
             2 => Ok(LineType::Normalled),
             _ => Err(NoSuchType),
+        }
+    }
+}
+
+// Document 01's number of a type.
+impl From<LineType> for u16 {
+    ghost use Rattle.std.specs.Prelude.{◌≡◌};
+    ghost use Rattle.sheet.specs.Fields.{type_number};
+
+    ghost from_gives = { λ t n. n ≡ type_number t };
+
+    fn from(line_type: LineType) -> u16 {
+        match line_type {
+            LineType::Panel => 0,
+            LineType::Cable => 1,
+            LineType::Normalled => 2,
         }
     }
 }

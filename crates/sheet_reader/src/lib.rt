@@ -1,7 +1,7 @@
 // The reader: what a patch sheet holds, into two lent lists.
 #![tactic(auto)]
 
-ghost use Rattle.std.specs.Prelude.{◌≡◌, ◌*◌, ◌≤◌, ◌<◌, length, set};
+ghost use Rattle.std.specs.Prelude.{◌≡◌, ◌*◌, ◌≤◌, length};
 ghost use Rattle.rules.specs.Sheet.{vertex_count, line_count, kinds_held, lines_held};
 ghost use Rattle.rules.specs.Calls.{over, triples, reader};
 ghost use Rattle.sheet_reader.specs.Answers.{as_read};

@@ -1,7 +1,7 @@
 // What the programs do: the places of the figure in figure.sheet in the patch in patch.sheet, printed, and on standard error the line that a refusal is about. Thin over the proved call `find`.
 #![tactic(auto)]
 
-ghost use Rattle.std.specs.Prelude.{◌≡◌, ◌+◌, ◌*◌, ◌≤◌, ◌<◌, length};
+ghost use Rattle.std.specs.Prelude.{◌+◌, ◌*◌, ◌≤◌, ◌<◌, length};
 ghost use Rattle.show.specs.Numbers.{Known};
 
 use find::find;

@@ -1,12 +1,8 @@
 // A whole text into a kind list and a line list.
-ghost use Rattle.std.specs.Prelude.{◌≡◌};
-ghost use Rattle.sheet.specs.Fields.{type_number};
-
 use crate::fault::{Reason, Refusal, TextFault};
 use crate::item::{Item, item_of};
 use crate::lines::ends_line;
 use arrayvec::ArrayVec;
-use sheet::fields::LineType;
 use sheet_writer as writer;
 
 // The lists that the writer takes, as far as a text is read: the kinds, and three numbers a line.
@@ -14,17 +10,6 @@ use sheet_writer as writer;
 pub(crate) struct Lists {
     pub kinds: ArrayVec<u16, 512>,
     pub lines: ArrayVec<u16, 6144>,
-}
-
-// Document 01's number of a type.
-fn type_number(sort: LineType) -> u16
-    ensures { result ≡ type_number sort }
-{
-    match sort {
-        LineType::Panel => 0,
-        LineType::Cable => 1,
-        LineType::Normalled => 2,
-    }
 }
 
 impl Lists {
@@ -46,7 +31,7 @@ impl Lists {
                 self.kinds.try_push(kind).map_err(|_| full)
             }
             Item::Line(sort, first, second) => {
-                let line = [type_number(sort), first, second];
+                let line = [u16::from(sort), first, second];
                 self.lines.try_extend_from_slice(&line).map_err(|_| full)
             }
         }

@@ -1,7 +1,8 @@
 // What the programs that run `find` share: a call on dirty memory and a dirty list, from bytes or from lists that are packed first, and whether what was to stay stayed. Proved safe; what `find` and `write` promise is theirs to say.
 #![tactic(auto)]
 
-ghost use Rattle.std.specs.Prelude.{◌≤◌};
+ghost use Rattle.std.specs.Prelude.{◌≡◌, ◌≤◌, take};
+ghost use Rattle.find.specs.Answers.{said};
 
 use find::{Found, Refusal, find};
 use matcher::Lists;
@@ -38,7 +39,11 @@ pub struct Said {
 }
 
 impl Ran {
-    pub fn said(&self) -> Said {
+    pub fn said(&self) -> Said
+        ensures number { result.number ≡ (said self.now.found).number }
+        ensures rows { result.rows ≡ (said self.now.found).rows }
+        ensures tries { result.tries ≡ (said self.now.found).tries }
+    {
         match self.found {
             Ok(found) => Said {
                 number: u16::from(found.end),
@@ -54,7 +59,9 @@ impl Ran {
     }
 
     // The rows, one after the other.
-    pub fn rows(&self) -> &[u16] {
+    pub fn rows(&self) -> &[u16]
+        ensures { result.now ≡ take self.now.end self.now.list }
+    {
         &self.list[..self.end]
     }
 }
@@ -72,7 +79,9 @@ pub fn end_of(rows: usize, n: usize) -> usize
 }
 
 // The call for a figure of n vertices.
-pub fn run(figure: &[u8], patch: &[u8], n: usize, limits: Limits) -> Ran {
+pub fn run(figure: &[u8], patch: &[u8], n: usize, limits: Limits) -> Ran
+    ensures { result.end ≤ 8192 }
+{
     let mut memory = [DIRTY; 22600];
     let mut list = [DIRTY; 8192];
     let size = limits.memory.min(22600);
@@ -102,7 +111,9 @@ pub fn run(figure: &[u8], patch: &[u8], n: usize, limits: Limits) -> Ran {
 }
 
 // The call for a figure and a patch given as lists, whose sheets have at most 256 bytes; lists that the writer refuses come to no bytes.
-pub fn run_lists(figure: &Lists<'_>, patch: &Lists<'_>, limits: Limits) -> Ran {
+pub fn run_lists(figure: &Lists<'_>, patch: &Lists<'_>, limits: Limits) -> Ran
+    ensures { result.end ≤ 8192 }
+{
     let mut figure_bytes = [0u8; 256];
     let mut patch_bytes = [0u8; 256];
     let f = write(figure.kinds, figure.lines, &mut figure_bytes).unwrap_or(0);

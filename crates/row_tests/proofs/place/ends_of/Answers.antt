@@ -7,5 +7,5 @@ use Rattle.row_tests.proofs.place.ends_of.Goals as goal
 pub loop-j-preserved : goal.loop-j-preserved
 loop-j-preserved c = read_more c.loop-j.invariant c.push.ensures.items (ap ends_of c.line-line.ensures)
 
-pub returns : goal.returns
-returns c = all_read c.loop-j.invariant (omega arith) (omega (arith, c.lines-j-end.ensures.few))
+pub returns-clause-holds : goal.returns-clause-holds
+returns-clause-holds c = all_read c.loop-j.invariant (omega arith) (omega (arith, c.lines-j-end.ensures.few))
