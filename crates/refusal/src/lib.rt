@@ -1,6 +1,10 @@
 // Refusals in words, for standard error: the number, what it means, and the line that it is about, of a text counted from 1, of a sheet from 0. Numbers from 71 on are of the text alone (docs/TEXT.md), the others document 01's.
 #![tactic(auto)]
 
+ghost use Rattle.std.specs.Prelude.{◌≡◌};
+ghost use Rattle.sheet.specs.Check.{fault_verdict};
+ghost use Rattle.text.specs.Faults.{reason_number};
+
 use sheet::fault::{BadLine, Fault, LineFault};
 use sheet_writer as writer;
 use std::fmt;
@@ -66,10 +70,28 @@ fn writer_words(refusal: writer::Refusal) -> &'static str {
     }
 }
 
+impl SheetRefused {
+    // The number that is said: a patch sheet's.
+    pub fn number(self) -> u16
+        ensures { result ≡ (fault_verdict 20 self.0).number }
+    {
+        self.0.verdict(20).number
+    }
+}
+
+impl TextRefused {
+    // The number that is said: the text's own, or the writer's.
+    pub fn number(self) -> u16
+        ensures { result ≡ reason_number self.0.reason }
+    {
+        self.0.reason.number()
+    }
+}
+
 impl fmt::Display for SheetRefused {
     fn fmt<W: fmt::Write>(&self, f: &mut fmt::Formatter<W>) -> fmt::Result {
         let SheetRefused(fault) = *self;
-        write!(f, "{}: ", fault.verdict(20).number)?;
+        write!(f, "{}: ", self.number())?;
         if let Fault::At(BadLine { line, .. }) = fault {
             write!(f, "line {line} of the sheet, counted from 0: ")?;
         }
@@ -84,11 +106,29 @@ impl fmt::Display for TextRefused {
             Reason::Text(fault) => text_words(fault),
             Reason::Sheet(refusal) => writer_words(refusal),
         };
-        write!(f, "line {line}: {}: {words}", reason.number())
+        write!(f, "line {line}: {}: {words}", self.number())
     }
 }
 
 // A refusal on standard error. A write that fails is let go: there is nowhere else to say it.
-pub fn say(rt: &impl Eprint, refusal: impl fmt::Display + Drop) {
+fn say(rt: &impl Eprint, refusal: impl fmt::Display + Drop) {
     let _ = eprintln!(rt; "{refusal}");
+}
+
+// A refusal of a sheet, and the line of it that it is about, if it is about one; the number said.
+pub fn say_of_sheet(rt: &impl Eprint, fault: Fault) -> u16
+    ensures { result ≡ (fault_verdict 20 fault).number }
+{
+    let refused = SheetRefused(fault);
+    say(rt, refused);
+    refused.number()
+}
+
+// A refusal of a text, about one of its lines; the number said.
+pub fn say_line(rt: &impl Eprint, refusal: Refusal) -> u16
+    ensures { result ≡ reason_number refusal.reason }
+{
+    let refused = TextRefused(refusal);
+    say(rt, refused);
+    refused.number()
 }

@@ -15,6 +15,37 @@ pub fn row_of(rows: &[u16], n: usize, i: usize) -> &[u16]
     &rows[start..start + n]
 }
 
+// Whether two parts of rows that are equally many fours are equal.
+fn same_fours(fours: &[[u16; 4]], others: &[[u16; 4]]) -> bool
+    requires { length fours.now ≡ length others.now }
+    ensures { Says result (fours.now ≡ others.now) }
+{
+    for k in 0..fours.len() {
+        if fours[k] != others[k] {
+            return false;
+        }
+    }
+    true
+}
+
+// Whether two parts of rows of the same length are equal, entry by entry.
+fn same_entries(entries: &[u16], others: &[u16]) -> bool
+    requires { length entries.now ≡ length others.now }
+    ensures { Says result (entries.now ≡ others.now) }
+{
+    entries.iter().zip(others).all(|(x, y)| x == y)
+}
+
+// Whether two rows of the same length are equal, four entries at a time and in place: rows that are compared often begin alike, and `==` of slices makes a call for each of those.
+pub(crate) fn same_row(row: &[u16], other: &[u16]) -> bool
+    requires { length row.now ≡ length other.now }
+    ensures { Says result (row.now ≡ other.now) }
+{
+    let (fours, rest) = row.as_chunks::<4>();
+    let (other_fours, other_rest) = other.as_chunks::<4>();
+    same_fours(fours, other_fours) && same_entries(rest, other_rest)
+}
+
 // Whether row i equals one of the rows before it, by comparing it with each.
 pub(crate) fn stands_before(rows: &[u16], n: usize, i: usize) -> bool
     requires { i * n + n ≤ length rows.now }
@@ -22,7 +53,7 @@ pub(crate) fn stands_before(rows: &[u16], n: usize, i: usize) -> bool
 {
     let row = row_of(rows, n, i);
     for j in 0..i {
-        if row_of(rows, n, j) == row {
+        if same_row(row_of(rows, n, j), row) {
             return true;
         }
     }
@@ -40,10 +71,10 @@ pub(crate) fn digest(row: &[u16]) -> usize
     d as usize
 }
 
-// Two marks for the digest of each row met, among 262,144 bits. A clause sees the words.
+// Two marks for the digest of each row met, among 262,144 bits. A clause sees the words, which may be any at first: more marks than rows cost comparisons alone.
 #[derive(Drop)]
 pub struct Marks {
-    words: [u32; 8192],
+    pub words: [u32; 8192],
 }
 
 impl Model for Marks {

@@ -2,7 +2,7 @@
 #![tactic(auto)]
 
 use listing::text_of;
-use refusal::{SheetRefused, say};
+use refusal::say_of_sheet;
 use std::io;
 use streams::read_full;
 
@@ -13,7 +13,7 @@ fn main(rt: HostRuntime) -> io::Result<()> {
     match text_of(&sheet[..n], &mut text) {
         Ok(count) => rt.write_all(&text[..count]),
         Err(fault) => {
-            say(&rt, SheetRefused(fault));
+            say_of_sheet(&rt, fault);
             Ok(())
         }
     }

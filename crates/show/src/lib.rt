@@ -12,7 +12,9 @@ use std::rt::Files;
 use streams::read_full;
 
 // What a file holds, up to 5,508 bytes, in the bytes that are lent; a file that cannot be opened counts as empty.
-fn read_sheet<'a>(rt: &impl Files, path: &str, bytes: &'a mut [u8; 5508]) -> &'a [u8] {
+fn read_sheet<'a>(rt: &impl Files, path: &str, bytes: &'a mut [u8; 5508]) -> &'a [u8]
+    ensures { length result.now ≤ 5508 }
+{
     let Ok(mut file) = File::open(rt, path) else {
         return &[];
     };

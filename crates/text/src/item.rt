@@ -83,18 +83,39 @@ fn is_blank(byte: u8) -> bool {
     matches!(byte, b' ' | b'\t' | b'\r' | b'\n')
 }
 
+// The words of a line that were not taken yet. Each byte is looked at once, up to a comment, which ends them.
+#[derive(Drop)]
+struct Words<'a> {
+    rest: &'a [u8],
+}
+
+impl<'a> Words<'a> {
+    // The next word, if there is one.
+    fn next(&mut self) -> Option<&'a [u8]> {
+        let start = self.rest.iter().position(|byte| !is_blank(*byte))?;
+        let found = &self.rest[start..];
+        let end = found
+            .iter()
+            .position(|byte| is_blank(*byte) || *byte == b'#')
+            .unwrap_or(found.len());
+        let (word, rest) = found.split_at(end);
+        self.rest = rest;
+        if word.is_empty() { None } else { Some(word) }
+    }
+}
+
 // The item of a line, if it has one.
 pub(crate) fn item_of(line: &[u8]) -> Result<Option<Item>, TextFault> {
-    let end = line
-        .iter()
-        .position(|byte| *byte == b'#')
-        .unwrap_or(line.len());
-    let mut words = line[..end]
-        .split(|byte| is_blank(*byte))
-        .filter(|word| !word.is_empty());
-    let Some(head) = words.next() else {
-        return Ok(None);
-    };
+    let mut words = Words { rest: line };
+    match words.next() {
+        Some(head) => named(head, words).map(Some),
+        None => Ok(None),
+    }
+}
+
+// The item that a first word and those after it are. Never a part of its caller, where an empty line is to cost little.
+#[inline(never)]
+fn named(head: &[u8], mut words: Words<'_>) -> Result<Item, TextFault> {
     let found = if head == b"vertex".as_slice() {
         let place = number(words.next())?;
         let named = words
@@ -114,5 +135,5 @@ pub(crate) fn item_of(line: &[u8]) -> Result<Option<Item>, TextFault> {
     if words.next().is_some() {
         return Err(TextFault::More);
     }
-    Ok(Some(found))
+    Ok(found)
 }

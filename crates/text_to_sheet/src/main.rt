@@ -1,7 +1,7 @@
 // Text on standard input, its sheet's bytes on standard output; or one message on standard error and no output.
 #![tactic(auto)]
 
-use refusal::{TextRefused, say};
+use refusal::say_line;
 use std::io;
 use streams::read_full;
 use text::sheet_of::sheet_of;
@@ -13,7 +13,7 @@ fn main(rt: HostRuntime) -> io::Result<()> {
     match sheet_of(&text[..n], &mut bytes) {
         Ok(count) => rt.write_all(&bytes[..count]),
         Err(refusal) => {
-            say(&rt, TextRefused(refusal));
+            say_line(&rt, refusal);
             Ok(())
         }
     }
