@@ -94,13 +94,16 @@ impl<'a> Words<'a> {
     fn next(&mut self) -> Option<&'a [u8]> {
         let start = self.rest.iter().position(|byte| !is_blank(*byte))?;
         let found = &self.rest[start..];
+        if found[0] == b'#' {
+            return None;
+        }
         let end = found
             .iter()
             .position(|byte| is_blank(*byte) || *byte == b'#')
             .unwrap_or(found.len());
         let (word, rest) = found.split_at(end);
         self.rest = rest;
-        if word.is_empty() { None } else { Some(word) }
+        Some(word)
     }
 }
 
