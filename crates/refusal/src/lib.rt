@@ -111,7 +111,7 @@ impl fmt::Display for TextRefused {
 }
 
 // A refusal on standard error. A write that fails is let go: there is nowhere else to say it.
-fn say(rt: &impl Eprint, refusal: impl fmt::Display + Drop) {
+pub fn say(rt: &impl Eprint, refusal: impl fmt::Display + Drop) {
     let _ = eprintln!(rt; "{refusal}");
 }
 
@@ -131,4 +131,62 @@ pub fn say_line(rt: &impl Eprint, refusal: Refusal) -> u16
     let refused = TextRefused(refusal);
     say(rt, refused);
     refused.number()
+}
+
+#[cfg(test)]
+mod tests {
+    use super::*;
+    use std::cell::Cell;
+    use std::fmt::{Display, Formatter};
+    use std::io;
+
+    // What of a line is still to come; `None` once anything else came.
+    #[derive(Drop)]
+    struct Expected(Option<&'static str>);
+
+    impl fmt::Write for Expected {
+        fn write_str(&mut self, s: &str) -> fmt::Result {
+            self.0 = self.0.and_then(|rest| rest.strip_prefix(s));
+            Ok(())
+        }
+    }
+
+    // A standard error on which every write fails; it counts the writes, and the lines that are the one expected.
+    #[derive(Drop)]
+    struct Ear {
+        line: &'static str,
+        writes: Cell<u32>,
+        heard: Cell<u32>,
+    }
+
+    impl Eprint for Ear {
+        fn eprint<D: Display + Drop>(&self, value: D) -> io::Result<()> {
+            self.writes.set(self.writes.get().saturating_add(1));
+            Err(io::ErrorKind::BrokenPipe.into())
+        }
+
+        fn eprintln<D: Display + Drop>(&self, value: D) -> io::Result<()> {
+            let mut f = Formatter::new(Expected(Some(self.line)));
+            let _ = f.write(&value);
+            if f.into_inner().0 == Some("") {
+                self.heard.set(self.heard.get().saturating_add(1));
+            }
+            self.eprint("")
+        }
+    }
+
+    #[test]
+    fn says_one_line_and_lets_a_failed_write_go(rt: HostRuntime) {
+        let ear = Ear {
+            line: "line 7: 77: the text is longer than 131,072 bytes",
+            writes: Cell::new(0),
+            heard: Cell::new(0),
+        };
+        let refusal = Refusal {
+            line: 7,
+            reason: Reason::Text(TextFault::Length),
+        };
+        say(&ear, TextRefused(refusal));
+        assert_eq!(rt; (ear.writes.get(), ear.heard.get()), (1, 1));
+    }
 }
